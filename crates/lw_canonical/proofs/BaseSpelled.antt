@@ -6,7 +6,8 @@ use Rattle.lw_calls.specs.Limits.{limits_of}
 use Rattle.lw_region.specs.Rectangle.{within}
 use Rattle.lw_grammar.specs.Statements.{Statement, LayersLine, ScreenLine, TaskLine, EndLine, OrderLine, ReportLine, version_at_screen, is_line_in_range}
 use Rattle.lw_grammar.specs.Told.{ScreenIsDue, nothing_told, told}
-use Rattle.lw_grammar.specs.Script.{Setting, is_screen_due, is_nothing_due, are_few, may_end, AreGoodLines}
+use Rattle.lw_grammar.specs.Script.{Setting, is_screen_due, is_nothing_due, are_few, may_end}
+use Rattle.lw_grammar.specs.GoodLines.{AreGoodLines}
 use Rattle.lw_grammar.specs.Verbs.{verb_of}
 use Rattle.lw_canonical.specs.Spelling.{spelled}
 use Rattle.lw_canonical.specs.Canonical.{lines_of_version}
@@ -16,7 +17,7 @@ use Rattle.lw_canonical.proofs.ReadsAgain.{plain_statements, spelled_again, few_
 use Rattle.lw_canonical.proofs.BitmapsKept.{IsBare, bare_kept, IsWithoutBitmaps, kept, glyph_kept, names_kept, due_kept, made_kept}
 use Rattle.lw_canonical.proofs.BitmapsSpelled.{kept_spelled}
 use Rattle.lw_canonical.proofs.GlyphsInOrder.{glyphs_over, glyphs_ordered, bare_over, unmapped_over, glyph_over, over_spelled}
-use Rattle.lw_canonical.proofs.Rearranged.{screen_of, base_of, alone, AreSpelled, HasOneSpelling, IsBaseOf}
+use Rattle.lw_canonical.proofs.Rearranged.{screen_of, base_of, alone, AreSpelled, IsWritten, AreWritten, IsBaseOf}
 use Rattle.std.proofs.lemmas.Int.{ints}
 use Rattle.std.proofs.lemmas.Bool.{true≢false, eqb-true, and_parts, true_from_ne_false}
 use Rattle.std.proofs.lemmas.Bool.Decides.{nat_tests}
@@ -28,26 +29,27 @@ record IsScreenRead (s : Setting) (v w h d : ℕ) : Type 0 where
   z : ℤ
   below : List Statement
   good : AreGoodLines s (ScreenLine x y z ∷ below)
+  written : IsWritten s below (ScreenLine x y z)
   version : v ≡ version_at_screen (told below).version
   width : w ≡ unsigned_abs x
   height : h ≡ unsigned_abs y
   depth : d ≡ unsigned_abs z
 
 -- so it does where any section but the first has begun
-screen_read : (s : Setting) (above : List Statement) → AreGoodLines s above → When (has_screen (told above).section) (IsScreenRead s (told above).version (told above).width (told above).height (told above).depth)
-screen_read s [] g = tt
-screen_read s (LayersLine ∷ above) g = unless _ _ (ap has_screen (version_first s above g))
-screen_read s (ScreenLine w h d ∷ above) g =
-    record { x = w; y = h; z = d; below = above; good = g; version = refl; width = refl; height = refl; depth = refl }
-screen_read s (TaskLine name ∷ above) g =
-    when _ _ (in_assets_or_tasks (told above).section (here s above (TaskLine name) g).1) (screen_read s above g.1)
-screen_read s (EndLine ∷ above) g =
-    when _ _ (ap has_screen (in_calls (told above).section (here s above EndLine g).1)) (screen_read s above g.1)
-screen_read s (OrderLine ∷ above) g =
-    when _ _ (ap has_screen (in_tasks (told above).section (and_parts _ _ (here s above OrderLine g).1).0)) (screen_read s above g.1)
-screen_read s (ReportLine ∷ above) g =
-    when _ _ (ap has_screen (in_tasks (told above).section (and_parts _ _ (here s above ReportLine g).1).0)) (screen_read s above g.1)
-screen_read s (f ∷ above) g = screen_read s above g.1
+screen_read : (s : Setting) (above : List Statement) → AreGoodLines s above → AreWritten s above → When (has_screen (told above).section) (IsScreenRead s (told above).version (told above).width (told above).height (told above).depth)
+screen_read s [] g written = tt
+screen_read s (LayersLine ∷ above) g written = unless _ _ (ap has_screen (version_first s above g))
+screen_read s (ScreenLine w h d ∷ above) g written =
+    record { x = w; y = h; z = d; below = above; good = g; written = written.0; version = refl; width = refl; height = refl; depth = refl }
+screen_read s (TaskLine name ∷ above) g written =
+    when _ _ (in_assets_or_tasks (told above).section (here s above (TaskLine name) g).1) (screen_read s above g.1 written.1)
+screen_read s (EndLine ∷ above) g written =
+    when _ _ (ap has_screen (in_calls (told above).section (here s above EndLine g).1)) (screen_read s above g.1 written.1)
+screen_read s (OrderLine ∷ above) g written =
+    when _ _ (ap has_screen (in_tasks (told above).section (and_parts _ _ (here s above OrderLine g).1).0)) (screen_read s above g.1 written.1)
+screen_read s (ReportLine ∷ above) g written =
+    when _ _ (ap has_screen (in_tasks (told above).section (and_parts _ _ (here s above ReportLine g).1).0)) (screen_read s above g.1 written.1)
+screen_read s (f ∷ above) g written = screen_read s above g.1 written.1
 
 -- a number from 1 on is what it counts
 from_one : (z : ℤ) (m : ℕ) → within (pos 1) z (pos m) ≡ true → pos (unsigned_abs z) ≡ z
@@ -76,7 +78,7 @@ version_above (f ∷ above) e = version_above above e
 
 -- no layer, no task and no call is few
 few_none : (limits : Limits) → are_few limits nothing_told ≡ true
-few_none limits = few_by_bitmaps limits [] [] [] 0 0 refl (omega arith) refl refl refl
+few_none limits = few_by_bitmaps limits nothing_told refl (omega arith) refl refl refl refl
 
 first_lines : (t : Setting) (version : ℕ) → (version ≡ 0) ⊎ (version ≡ 2) → AreFirst t version
 unfolding verb_of
@@ -86,8 +88,8 @@ first_lines t version (inr two) =
     subst (AreFirst t) (sym two) (record { spelled = (refl, refl, tt); version = refl; section = refl; due = refl; few = few_none })
 
 -- a good line of a screen reads again below the line of its version alone
-first_again : HasOneSpelling → (s t : Setting) (x y z : ℤ) (above : List Statement) → AreGoodLines s (ScreenLine x y z ∷ above) → AreSpelled t (ScreenLine x y z ∷ lines_of_version (version_at_screen (told above).version))
-first_again one s t x y z above g =
+first_again : (s t : Setting) (x y z : ℤ) (above : List Statement) → AreGoodLines s (ScreenLine x y z ∷ above) → IsWritten s above (ScreenLine x y z) → AreSpelled t (ScreenLine x y z ∷ lines_of_version (version_at_screen (told above).version))
+first_again s t x y z above g written =
     let f : Statement = ScreenLine x y z in
     let lines : List Statement = lines_of_version (version_at_screen (told above).version) in
     let at = here s above (ScreenLine x y z) g in
@@ -96,7 +98,7 @@ first_again one s t x y z above g =
     let P : ℕ → Type 0 = λ version. is_line_in_range version f ≡ true in
     let tested : IsStatementTested t lines (ScreenLine x y z) =
     record { range = subst P (sym first.version) k.range; named = refl; new = refl; group = refl; few = first.few (limits_of (told lines).version); hook = refl; unused = refl; padding = refl } in
-    (spelled_again one s t above lines f g.0 (plain_statements s t above lines ScreenIsDue f at.0 first.due (in_screen _ at.1) first.section refl refl) (tests_pass t lines f tested), isnt_passed lines (spelled (ScreenLine x y z)) refl (ap is_nothing_due first.section), first.spelled)
+    (spelled_again s t above lines f written (plain_statements s t above lines ScreenIsDue f at.0 first.due (in_screen _ at.1) first.section refl refl) (tests_pass t lines f tested), isnt_passed lines (spelled (ScreenLine x y z)) refl (ap is_nothing_due first.section), first.spelled)
 
 -- it has the numbers that the lines above tell
 screen_same : (s : Setting) (v w h d : ℕ) (k : IsScreenRead s v w h d) → ScreenLine k.x k.y k.z ≡ ScreenLine (pos w) (pos h) (pos d)
@@ -110,12 +112,12 @@ screen_same s v w h d k =
     ap (λ v. ScreenLine v k.y k.z) x ∙ (ap (λ v. ScreenLine (pos w) v k.z) y ∙ ap (λ v. ScreenLine (pos w) (pos h) v) z)
 
 -- version and screen read again, where the screen's line stands among the good ones
-screen_spelled : HasOneSpelling → (s t : Setting) (above : List Statement) → AreGoodLines s above → has_screen (told above).section ≡ true → AreSpelled t (screen_of above)
-screen_spelled one s t above g screen =
-    let k = when _ _ screen (screen_read s above g) in
+screen_spelled : (s t : Setting) (above : List Statement) → AreGoodLines s above → AreWritten s above → has_screen (told above).section ≡ true → AreSpelled t (screen_of above)
+screen_spelled s t above g written screen =
+    let k = when _ _ screen (screen_read s above g written) in
     let P : Statement → Type 0 = λ f. AreSpelled t (f ∷ lines_of_version (told above).version) in
     let Q : ℕ → Type 0 = λ version. AreSpelled t (ScreenLine k.x k.y k.z ∷ lines_of_version version) in
-    subst P (screen_same s (told above).version (told above).width (told above).height (told above).depth k) (subst Q (sym k.version) (first_again one s t k.x k.y k.z k.below k.good))
+    subst P (screen_same s (told above).version (told above).width (told above).height (told above).depth k) (subst Q (sym k.version) (first_again s t k.x k.y k.z k.below k.good k.written))
 
 -- what they tell: nothing else
 record AreBase (v w h d : ℕ) (lines : List Statement) : Type 0 where
@@ -139,9 +141,9 @@ screen_base s above g has =
     let d = (told above).depth in
     let P : ℕ → Type 0 = λ v. AreBase v w h d (ScreenLine (pos w) (pos h) (pos d) ∷ lines_of_version v) in
     let one : IsBare 1 w h d (ScreenLine (pos w) (pos h) (pos d) ∷ []) =
-    record { version = refl; section = refl; width = refl; height = refl; depth = refl; tasks = refl; names = refl; supers = refl; hooks = refl; group = refl; so_far = refl; began = refl; calls = refl; groups = refl } in
+    record { version = refl; section = refl; width = refl; height = refl; depth = refl; patterns = refl; tasks = refl; names = refl; supers = refl; hooks = refl; group = refl; so_far = refl; began = refl; calls = refl; groups = refl } in
     let two : IsBare 2 w h d (ScreenLine (pos w) (pos h) (pos d) ∷ LayersLine ∷ []) =
-    record { version = refl; section = refl; width = refl; height = refl; depth = refl; tasks = refl; names = refl; supers = refl; hooks = refl; group = refl; so_far = refl; began = refl; calls = refl; groups = refl } in
+    record { version = refl; section = refl; width = refl; height = refl; depth = refl; patterns = refl; tasks = refl; names = refl; supers = refl; hooks = refl; group = refl; so_far = refl; began = refl; calls = refl; groups = refl } in
     let first : P 1 = record { bare = one; alone = record { due = refl; width = refl; names = refl; made = λ rows. refl }; given = refl; glyphs = λ code. refl } in
     let second : P 2 = record { bare = two; alone = record { due = refl; width = refl; names = refl; made = λ rows. refl }; given = refl; glyphs = λ code. refl } in
     by_version P first second (told above).version k.some_version k.small_version
@@ -155,8 +157,8 @@ base_parts : (above : List Statement) → kept above (glyphs_of above) ≡ base_
 base_parts above = ap (kept above) (sym (glyphs_ordered above (screen_of above)))
 
 -- The base of good lines below a screen's reads in its one spelling, in each setting.
-pub screened_base_spelled : HasOneSpelling → (s t : Setting) (above : List Statement) → AreGoodLines s above → has_screen (told above).section ≡ true → AreSpelled t (base_of above)
-screened_base_spelled one s t above g has =
+pub screened_base_spelled : (s t : Setting) (above : List Statement) → AreGoodLines s above → AreWritten s above → has_screen (told above).section ≡ true → AreSpelled t (base_of above)
+screened_base_spelled s t above g written has =
     let v = (told above).version in
     let w = (told above).width in
     let h = (told above).height in
@@ -164,14 +166,14 @@ screened_base_spelled one s t above g has =
     let screen : List Statement = screen_of above in
     let k = screen_base s above g has in
     let glyphs : AreSpelled t (glyphs_of above) =
-    over_spelled one s t above screen g v w h d k.bare k.alone k.given (screen_spelled one s t above g has) 95 in
+    over_spelled s t above screen g written v w h d k.bare k.alone k.given (screen_spelled s t above g written has) 95 in
     let all : AreSpelled t (kept above (glyphs_of above)) =
-    kept_spelled one s t v w h d (glyphs_of above) (bare_over above screen v w h d 95 k.bare) (unmapped_over above screen 95 k.alone) above g glyphs in
+    kept_spelled s t v w h d (glyphs_of above) (bare_over above screen v w h d 95 k.bare) (unmapped_over above screen 95 k.alone) above g written glyphs in
     subst (AreSpelled t) (base_parts above) all
 
 -- So does that of whole ones in a script alone.
-pub base_spelled : HasOneSpelling → (s : Setting) (above : List Statement) → AreGoodLines s above → may_end s.form (told above).section ≡ true → AreSpelled (alone s) (base_of above)
-base_spelled one s above g whole = screened_base_spelled one s (alone s) above g (whole_ends s.form above whole).screen
+pub base_spelled : (s : Setting) (above : List Statement) → AreGoodLines s above → AreWritten s above → may_end s.form (told above).section ≡ true → AreSpelled (alone s) (base_of above)
+base_spelled s above g written whole = screened_base_spelled s (alone s) above g written (whole_ends s.form above whole).screen
 
 -- Where an input may end, no rows are due.
 pub none_at_end : (s : Setting) (above : List Statement) → AreGoodLines s above → may_end s.form (told above).section ≡ true → (told above).rows_due ≡ 0
@@ -204,6 +206,7 @@ is_kept_base s above g has none =
       height = k.height;
       depth = k.depth;
       bitmap_names = names_kept (glyphs_of above) b above;
+      patterns = k.patterns;
       glyphs = glyph_of_base s above g has;
       bitmaps = made_kept (glyphs_of above) b s above g [] (none_due above none);
       tasks = k.tasks;

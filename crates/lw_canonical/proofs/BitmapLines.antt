@@ -9,13 +9,14 @@ use Rattle.lw_planes.specs.Storage.{bit_place, stored}
 use Rattle.lw_planes.proofs.BitmapLaws.{row_bytes_wide}
 use Rattle.lw_grammar.specs.Statements.{Statement, BitmapLine, RowLine, are_sizes_in_range, bitmap_size_limit}
 use Rattle.lw_grammar.specs.Told.{told}
-use Rattle.lw_grammar.specs.Script.{Setting, AreGoodLines}
+use Rattle.lw_grammar.specs.Script.{Setting}
+use Rattle.lw_grammar.specs.GoodLines.{AreGoodLines}
 use Rattle.lw_canonical.specs.Canonical.{enumerated, lines_of_bitmap}
 use Rattle.lw_canonical.proofs.Rearranged.{is_of_bitmaps}
 use Rattle.lw_grammar.proofs.ScriptSizes.{here, tests, bitmaps_named}
 use Rattle.lw_canonical.proofs.CallLinesBack.{number_back}
 use Rattle.lw_canonical.proofs.ByNumber.{gathered_same}
-use Rattle.lw_canonical.proofs.RowsBack.{IsRow, row_made, row_are_bytes, row_back}
+use Rattle.lw_canonical.proofs.RowsBack.{IsRow, row_made, row_back}
 use Rattle.std.proofs.lemmas.Bool.{true≢false, eqb-true, and_parts}
 use Rattle.std.proofs.lemmas.Nat.{mul-le}
 use Rattle.std.proofs.lemmas.List.{nil_from_length, get_or_append_left, get_or-append-add, get_or-map, length-map, reverse-append}
@@ -162,7 +163,7 @@ bitmaps_back s (BitmapLine name w h d ∷ above) g rows n r =
     sym (append_assoc (bitmaps_told above) (BitmapLine name w h d ∷ []) (map (λ (k : List ℕ). RowLine k) rows)) ∙ ap (λ (t : List Statement). t ++ map (λ (k : List ℕ). RowLine k) rows) (sym line)
 bitmaps_back s (RowLine bytes ∷ above) g rows n r =
     let h = here s above (RowLine bytes) g in
-    let row : IsRow (told above).row_width bytes = row_made (told above).row_width bytes h.1 (row_are_bytes s above bytes h.0 g.0) (tests s above (RowLine bytes) g).padding in
+    let row : IsRow (told above).row_width bytes = row_made (told above).row_width bytes h.1 h.2 (tests s above (RowLine bytes) g).padding in
     let more : length (bytes ∷ rows) ≡ (told above).rows_due = row_more (told above).rows_due (length rows) h.0 n in
     let line : bitmaps_told (RowLine bytes ∷ above) ≡ bitmaps_told above ++ RowLine bytes ∷ [] = reverse-append (RowLine bytes ∷ []) (filter is_of_bitmaps above) in
     bitmaps_back s above g.1 (bytes ∷ rows) more (row, r) ∙ sym (append_assoc (bitmaps_told above) (RowLine bytes ∷ []) (map (λ (k : List ℕ). RowLine k) rows)) ∙

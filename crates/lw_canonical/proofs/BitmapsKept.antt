@@ -4,7 +4,8 @@ use Rattle.lw_planes.specs.Bitmap.{row_bytes}
 use Rattle.lw_planes.specs.Storage.{stored}
 use Rattle.lw_grammar.specs.Statements.{Statement, GlyphLine, BitmapLine, RowLine}
 use Rattle.lw_grammar.specs.Told.{AssetsAreDue, nothing_told, told}
-use Rattle.lw_grammar.specs.Script.{Setting, AreGoodLines}
+use Rattle.lw_grammar.specs.Script.{Setting}
+use Rattle.lw_grammar.specs.GoodLines.{AreGoodLines}
 use Rattle.lw_grammar.proofs.ScriptSizes.{here, none_due, row_less}
 use Rattle.lw_canonical.proofs.Rearranged.{is_of_bitmaps}
 use Rattle.std.proofs.lemmas.Bool.{eqb-true}
@@ -16,6 +17,7 @@ pub record IsBare (v w h d : ℕ) (lines : List Statement) : Type 0 where
   pub width : (told lines).width ≡ w
   pub height : (told lines).height ≡ h
   pub depth : (told lines).depth ≡ d
+  pub patterns : (told lines).pattern_names ≡ []
   pub tasks : (told lines).tasks ≡ []
   pub names : (told lines).names ≡ []
   pub supers : (told lines).supers ≡ 0
@@ -29,15 +31,15 @@ pub record IsBare (v w h d : ℕ) (lines : List Statement) : Type 0 where
 -- so do they with a further glyph, bitmap or row
 pub bare_glyph : (v w h d : ℕ) (lines : List Statement) (code : ℕ) (rows : List ℕ) → IsBare v w h d lines → IsBare v w h d (GlyphLine code rows ∷ lines)
 bare_glyph v w h d lines code rows k =
-    record { version = k.version; section = k.section; width = k.width; height = k.height; depth = k.depth; tasks = k.tasks; names = k.names; supers = k.supers; hooks = k.hooks; group = k.group; so_far = k.so_far; began = k.began; calls = k.calls; groups = k.groups }
+    record { version = k.version; section = k.section; width = k.width; height = k.height; depth = k.depth; patterns = k.patterns; tasks = k.tasks; names = k.names; supers = k.supers; hooks = k.hooks; group = k.group; so_far = k.so_far; began = k.began; calls = k.calls; groups = k.groups }
 
 bare_bitmap : (v w h d : ℕ) (lines : List Statement) (name : List ℕ) (x y z : ℤ) → IsBare v w h d lines → IsBare v w h d (BitmapLine name x y z ∷ lines)
 bare_bitmap v w h d lines name x y z k =
-    record { version = k.version; section = k.section; width = k.width; height = k.height; depth = k.depth; tasks = k.tasks; names = k.names; supers = k.supers; hooks = k.hooks; group = k.group; so_far = k.so_far; began = k.began; calls = k.calls; groups = k.groups }
+    record { version = k.version; section = k.section; width = k.width; height = k.height; depth = k.depth; patterns = k.patterns; tasks = k.tasks; names = k.names; supers = k.supers; hooks = k.hooks; group = k.group; so_far = k.so_far; began = k.began; calls = k.calls; groups = k.groups }
 
 bare_row : (v w h d : ℕ) (lines : List Statement) (bytes : List ℕ) → IsBare v w h d lines → IsBare v w h d (RowLine bytes ∷ lines)
 bare_row v w h d lines bytes k =
-    record { version = k.version; section = k.section; width = k.width; height = k.height; depth = k.depth; tasks = k.tasks; names = k.names; supers = k.supers; hooks = k.hooks; group = k.group; so_far = k.so_far; began = k.began; calls = k.calls; groups = k.groups }
+    record { version = k.version; section = k.section; width = k.width; height = k.height; depth = k.depth; patterns = k.patterns; tasks = k.tasks; names = k.names; supers = k.supers; hooks = k.hooks; group = k.group; so_far = k.so_far; began = k.began; calls = k.calls; groups = k.groups }
 
 -- Lines without bitmaps.
 pub record IsWithoutBitmaps (lines : List Statement) : Type 0 where

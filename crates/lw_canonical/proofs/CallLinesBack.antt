@@ -12,7 +12,7 @@ use Rattle.lw_grammar.specs.declared.verb.TextVerb.TheVariants.{Text as TextOf}
 use Rattle.lw_grammar.specs.Statements.{NewLayer, Act, NumberAct, PairAct, TextAct, BareAct, RegRectAct, RegPairAct, RegClearAct, CreateAct, OpenAct, InFrontAct, WhichAct, PutAct, BlitAct, CallLine, four, is_hook_number, is_own_size, is_new_layer_in_range, place_and_size_fit, greatest_number, is_act_in_range}
 use Rattle.lw_grammar.specs.Told.{place_among, created_make, opened_make, number_call, spelled_call}
 use Rattle.lw_canonical.specs.Canonical.{created_layer, opened_layer, line_of_call}
-use Rattle.lw_grammar.proofs.ScriptStatements.{IsNewLayerOf, IsStatementMade}
+use Rattle.lw_grammar.specs.GoodLines.{IsNewLayerOf, IsStatementMade}
 use Rattle.std.proofs.lemmas.Int.{ints}
 use Rattle.std.proofs.lemmas.Bool.{false≢true, and_parts}
 use Rattle.std.proofs.lemmas.List.{nil_from_length}

@@ -5,13 +5,15 @@ use Rattle.lw_calls.specs.Plan.{Plan}
 use Rattle.lw_grammar.specs.Lines.{lines}
 use Rattle.lw_grammar.specs.Statements.{Statement}
 use Rattle.lw_grammar.specs.Told.{told, plan_of}
-use Rattle.lw_grammar.specs.Script.{Setting, is_skipped, is_nothing_due, line_read, Reached, at_the_top, with_line, may_end, lines_read, input_from, SpellsInput, AreGoodLines}
+use Rattle.lw_grammar.specs.Script.{Setting, is_skipped, is_nothing_due, Reached, at_the_top, with_line, may_end, lines_read, input_from, SpellsInput}
+use Rattle.lw_grammar.specs.GoodLines.{AreGoodLines}
 use Rattle.lw_calls.specs.Written.{line_of}
 use Rattle.lw_canonical.specs.Spelling.{spelled}
 use Rattle.lw_canonical.specs.Canonical.{lines_of_plan, canonical_text, canonical_input, CanonicalTextsReadBack}
-use Rattle.lw_grammar.proofs.ScriptOutcome.{of_lines}
-use Rattle.lw_canonical.proofs.Rearranged.{arranged, alone, AreSpelled, is_passed, base_of}
-use Rattle.lw_canonical.proofs.OneSpelling.{one_spelling, no_feed, HasNoFeed, HaveNoFeed, lines_of_text}
+use Rattle.lw_grammar.proofs.ScriptOutcome.{lines_keep, of_lines}
+use Rattle.lw_canonical.proofs.Rearranged.{arranged, alone, AreSpelled, IsWritten, AreWritten, is_passed, base_of}
+use Rattle.lw_canonical.proofs.OneSpelling.{no_feed, HasNoFeed, HaveNoFeed, lines_of_text}
+use Rattle.lw_canonical.proofs.LinesWritten.{AreGoodAndWritten, written_more}
 use Rattle.lw_canonical.proofs.PlanLines.{plan_lines}
 use Rattle.lw_canonical.proofs.BaseSpelled.{base_spelled, whole_base_is}
 use Rattle.std.proofs.lemmas.Bool.{or_parts}
@@ -21,11 +23,7 @@ use Rattle.std.proofs.lemmas.List.{map_push}
 use Rattle.std.proofs.lemmas.Grind.{reverse_onto}
 use Rattle.lw_canonical.proofs.TasksSpelled.{tasks_spelled, tasks_plan, tasks_whole, tasks_order, base_order}
 
--- spelled lines are good, and have no line feed
-good : (t : Setting) (statements : List Statement) → AreSpelled t statements → AreGoodLines t statements
-good t [] h = tt
-good t (f ∷ statements) h = (record { line = spelled f; read = h.0 }, good t statements h.2)
-
+-- spelled lines have no line feed
 feedless_more : (fs : List Statement) (f : Statement) → HaveNoFeed fs → HasNoFeed (spelled f) → HaveNoFeed (fs ++ f ∷ [])
 feedless_more [] f h k = (k, tt)
 feedless_more (g ∷ fs) f h k = (h.0, feedless_more fs f h.1 k)
@@ -60,7 +58,7 @@ abbrev reached_at : List Statement → Reached
 reached_at statements = record { statements = statements; number = length statements + 1; place = length (text_of (reverse statements)) }
 
 -- lines that are spelled are read one after another
-read_on : (t : Setting) (p : Reached) (f : Statement) (ls : List (List ℕ)) → is_passed p.statements (spelled f) ≡ false → line_read t (told p.statements) (spelled f) ≡ Ok f → lines_read t p (spelled f ∷ ls) ≡ lines_read t (with_line p (spelled f) (f ∷ p.statements)) ls
+read_on : (t : Setting) (p : Reached) (f : Statement) (ls : List (List ℕ)) → is_passed p.statements (spelled f) ≡ false → IsWritten t p.statements f → lines_read t p (spelled f ∷ ls) ≡ lines_read t (with_line p (spelled f) (f ∷ p.statements)) ls
 read_on t p f ls e d =
     let b = or_parts (is_skipped (spelled f)) (is_nothing_due (told p.statements).section) e in
     rw (b.1, b.0, d) refl
@@ -95,12 +93,12 @@ without_order : (t : Setting) (statements : List Statement) (p : Plan) (n : ℕ)
 without_order t statements p n e d = rw (e, d) refl
 
 -- the canonical text of the plan that good lines tell
-of_good : (s : Setting) (above : List Statement) → AreGoodLines s above → may_end s.form (told above).section ≡ true → lines_of_plan (plan_of s.hooks (told above)) ≡ reverse (arranged above) → SpellsInput (alone s) (canonical_text (plan_of s.hooks (told above))) (canonical_input (plan_of s.hooks (told above)))
-of_good s above good whole ls =
+of_good : (s : Setting) (above : List Statement) → AreGoodLines s above → AreWritten s above → may_end s.form (told above).section ≡ true → lines_of_plan (plan_of s.hooks (told above)) ≡ reverse (arranged above) → SpellsInput (alone s) (canonical_text (plan_of s.hooks (told above))) (canonical_input (plan_of s.hooks (told above)))
+of_good s above good written whole ls =
     let p = plan_of s.hooks (told above) in
     let base = base_of above in
     let is = whole_base_is s above good whole in
-    let all : AreSpelled (alone s) (arranged above) = tasks_spelled one_spelling s above base good whole is (base_spelled one_spelling s above good whole) in
+    let all : AreSpelled (alone s) (arranged above) = tasks_spelled s above base good written whole is (base_spelled s above good written whole) in
     let spelt = spells (alone s) (arranged above) all (tasks_whole s above base good whole is) in
     let text : text_of (reverse (arranged above)) ≡ canonical_text p = text_is p (arranged above) ls in
     let plan : plan_of s.hooks (told (arranged above)) ≡ p = tasks_plan s above base good whole is in
@@ -115,7 +113,8 @@ reads_back plan_lines s bytes input h =
     let above = l.reached.statements in
     let same : input.plan ≡ plan_of s.hooks (told above) = ap (λ i. i.plan) l.is in
     let P : Plan → Type 0 = λ p. SpellsInput (alone s) (canonical_text p) (canonical_input p) in
-    subst P (sym same) (of_good s above l.read.good l.read.ended (plan_lines s above l.read.good l.read.ended))
+    let read = lines_keep (AreGoodAndWritten s) s (written_more s) at_the_top l.reached (lines bytes) (tt, tt) l.lines_are in
+    subst P (sym same) (of_good s above l.read.good read.0.1 l.read.ended (plan_lines s above l.read.good l.read.ended))
 
 -- so is the canonical text of each
 pub canonical_texts_read_back : CanonicalTextsReadBack

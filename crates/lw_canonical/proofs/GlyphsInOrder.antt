@@ -1,19 +1,20 @@
 -- The glyphs of good lines in the order of their codes, over other lines: what they tell, and that they read again in their
 -- one spelling.
-use Rattle.std.proofs.Common.{◌≡◌, ℕ, zero, suc, ◌+◌, ◌<◌, ◌≤◌, ◌==◌, Bool, true, false, cond, List, [], ◌∷◌, ◌++◌, length, replicate, reverse, Ok, refl, sym, ap, subst, ◌∙◌, inl, inr, ◌⊎◌, ⊎_elim, arith, append_assoc, append-nil}
+use Rattle.std.proofs.Common.{◌≡◌, ℕ, zero, suc, ◌+◌, ◌<◌, ◌≤◌, ◌==◌, Bool, true, false, cond, List, [], ◌∷◌, ◌++◌, length, replicate, reverse, refl, sym, ap, subst, ◌∙◌, inl, inr, ◌⊎◌, ⊎_elim, arith, append_assoc, append-nil}
 use Rattle.std.specs.List.{list_all, flat_map, range_with_len}
 use Rattle.lw_calls.proofs.Ranges.{range_last}
 use Rattle.lw_calls.specs.Limits.{limits_of}
 use Rattle.lw_grammar.specs.Statements.{Statement, GlyphLine}
 use Rattle.lw_grammar.specs.Told.{AssetsAreDue, nothing_told, told}
-use Rattle.lw_grammar.specs.Script.{Setting, line_read, AreGoodLines}
+use Rattle.lw_grammar.specs.Script.{Setting}
+use Rattle.lw_grammar.specs.GoodLines.{AreGoodLines}
 use Rattle.lw_canonical.specs.Spelling.{spelled}
 use Rattle.lw_canonical.specs.Canonical.{lines_of_glyph}
-use Rattle.lw_grammar.proofs.ScriptSizes.{IsStatementTested, tests_pass, here, tests, in_assets}
+use Rattle.lw_grammar.proofs.ScriptSizes.{IsStatementTested, tests_pass, here, tests, in_assets, glyph_rows}
 use Rattle.lw_canonical.proofs.ReadsAgain.{plain_statements, spelled_again, isnt_passed}
 use Rattle.lw_canonical.proofs.BitmapsKept.{IsBare, bare_glyph, IsWithoutBitmaps}
 use Rattle.lw_canonical.proofs.BitmapsSpelled.{few_bare, due_bare}
-use Rattle.lw_canonical.proofs.Rearranged.{glyphs_in_order, AreSpelled, HasOneSpelling}
+use Rattle.lw_canonical.proofs.Rearranged.{glyphs_in_order, AreSpelled, IsWritten, AreWritten}
 use Rattle.std.proofs.lemmas.Bool.{false≢true, eqb-true, eqb-false, eq-eqb, ne_eqb, and_parts, or_from, cases_eq}
 use Rattle.std.proofs.lemmas.List.{reverse-append}
 use Rattle.std.proofs.lemmas.Grind.{flat_map-append}
@@ -90,16 +91,20 @@ module _ (above base : List Statement) where
 
 -- A glyph has no bit set, or its line stands among the good lines.
 abbrev IsGlyphRead : Setting → ℕ → List ℕ → Type 0
-IsGlyphRead s code rows = (rows ≡ replicate 8 0) ⊎ ((below : List Statement) × AreGoodLines s (GlyphLine code rows ∷ below))
+IsGlyphRead s code rows =
+    (rows ≡ replicate 8 0) ⊎ ((below : List Statement) × AreGoodLines s (GlyphLine code rows ∷ below) × IsWritten s below (GlyphLine code rows))
 
-glyph_read : (s : Setting) (above : List Statement) → AreGoodLines s above → (code : ℕ) → IsGlyphRead s code ((told above).glyphs code)
-glyph_read s [] g code = inl refl
-glyph_read s (GlyphLine c rows ∷ above) g code = step (c == code) refl (glyph_read s above g.1 code)
+glyph_read : (s : Setting) (above : List Statement) → AreGoodLines s above → AreWritten s above → (code : ℕ) → IsGlyphRead s code ((told above).glyphs code)
+glyph_read s [] g written code = inl refl
+glyph_read s (GlyphLine c rows ∷ above) g written code = step (c == code) refl (glyph_read s above g.1 written.1 code)
   where
     step : (t : Bool) → (c == code) ≡ t → IsGlyphRead s code ((told above).glyphs code) → IsGlyphRead s code (cond t rows ((told above).glyphs code))
-    step true e rest = let P : ℕ → Type 0 = λ k. AreGoodLines s (GlyphLine k rows ∷ above) in inr (above, subst P (eqb-true c code e) g)
+    step true e rest =
+        let P : ℕ → Type 0 = λ k. AreGoodLines s (GlyphLine k rows ∷ above) in
+        let Q : ℕ → Type 0 = λ k. IsWritten s above (GlyphLine k rows) in
+        inr (above, subst P (eqb-true c code e) g, subst Q (eqb-true c code e) written.0)
     step false e rest = rest
-glyph_read s (f ∷ above) g code = glyph_read s above g.1 code
+glyph_read s (f ∷ above) g written code = glyph_read s above g.1 written.1 code
 
 -- rows without a bit are zeros
 zero_rows : (rows : List ℕ) → list_all (λ row. row == 0) rows ≡ true → rows ≡ replicate (length rows) 0
@@ -108,11 +113,6 @@ zero_rows (r ∷ rows) h =
     let both = and_parts (r == 0) _ h in
     let first : r ≡ 0 = eqb-true r 0 both.0 in
     ap (λ k. k ∷ rows) first ∙ ap (λ l. 0 ∷ l) (zero_rows rows both.1)
-
--- so a glyph without a bit is eight zeros
-unset_glyph : (s : Setting) (code : ℕ) (rows : List ℕ) → IsGlyphRead s code rows → list_all (λ row. row == 0) rows ≡ true → rows ≡ replicate 8 0
-unset_glyph s code rows (inl e) h = e
-unset_glyph s code rows (inr k) h = zero_rows rows h ∙ ap (λ n. replicate n 0) (here s k.0 (GlyphLine code rows) k.1).2
 
 -- Over lines without a glyph those of good lines give each code's glyph again, and read again.
 module _ (s : Setting) (above base : List Statement) (g : AreGoodLines s above) where
@@ -129,7 +129,7 @@ module _ (s : Setting) (above base : List Statement) (g : AreGoodLines s above) 
       step : (t : Bool) → list_all (λ row. row == 0) ((told above).glyphs (32 + n)) ≡ t → (b : Bool) → (32 + n == 32 + i) ≡ b → (i < n → (told (glyphs_over above base n)).glyphs (32 + i) ≡ (told above).glyphs (32 + i)) → (told (cond t [] (GlyphLine (32 + n) ((told above).glyphs (32 + n)) ∷ []) ++ glyphs_over above base n)).glyphs (32 + i) ≡ (told above).glyphs (32 + i)
       step true e true d k =
           let same = at_last (eqb-true (32 + n) (32 + i) d) in
-          let unset : (told above).glyphs (32 + n) ≡ replicate 8 0 = unset_glyph s (32 + n) ((told above).glyphs (32 + n)) (glyph_read s above g (32 + n)) e in
+          let unset : (told above).glyphs (32 + n) ≡ replicate 8 0 = zero_rows ((told above).glyphs (32 + n)) e ∙ ap (λ k. replicate k 0) (glyph_rows s above g (32 + n)) in
           glyph_past above base n (32 + i) (omega (arith, same)) ∙ (none (32 + i) ∙ (sym unset ∙ ap (λ k. (told above).glyphs (32 + k)) same))
       step true e false d k = k (earlier d)
       step false e b d k =
@@ -141,21 +141,21 @@ module _ (s : Setting) (above base : List Statement) (g : AreGoodLines s above) 
           at false d = k (earlier d)
 
 -- a good glyph line reads again over lines that tell of a screen alone, and of other codes
-glyph_again : HasOneSpelling → (s t : Setting) (v w h d code : ℕ) (rows : List ℕ) (above lines : List Statement) → AreGoodLines s (GlyphLine code rows ∷ above) → IsBare v w h d lines → IsWithoutBitmaps lines → (told lines).given code ≡ false → line_read t (told lines) (spelled (GlyphLine code rows)) ≡ Ok (GlyphLine code rows)
-glyph_again one s t v w h d code rows above lines g bare b new =
+glyph_again : (s t : Setting) (v w h d code : ℕ) (rows : List ℕ) (above lines : List Statement) → AreGoodLines s (GlyphLine code rows ∷ above) → IsWritten s above (GlyphLine code rows) → IsBare v w h d lines → IsWithoutBitmaps lines → (told lines).given code ≡ false → IsWritten t lines (GlyphLine code rows)
+glyph_again s t v w h d code rows above lines g written bare b new =
     let f : Statement = GlyphLine code rows in
     let at = here s above (GlyphLine code rows) g in
     let k = tests s above (GlyphLine code rows) g in
     let none : length (told lines).bitmap_names ≡ 0 = ap length b.names in
     let tested : IsStatementTested t lines (GlyphLine code rows) =
     record { range = k.range; named = refl; new = new; group = refl; few = few_bare v w h d (f ∷ lines) (bare_glyph v w h d lines code rows bare) (limits_of (told lines).version) (omega (arith, none)); hook = refl; unused = refl; padding = refl } in
-    spelled_again one s t above lines f g.0 (plain_statements s t above lines AssetsAreDue f at.0 (eq-eqb _ 0 b.due) (in_assets _ at.1) bare.section refl refl) (tests_pass t lines f tested)
+    spelled_again s t above lines f written (plain_statements s t above lines AssetsAreDue f at.0 (eq-eqb _ 0 b.due) (in_assets _ at.1) bare.section refl refl) (tests_pass t lines f tested)
 
 -- So do all glyphs in order.
-pub over_spelled : HasOneSpelling → (s t : Setting) (above base : List Statement) → AreGoodLines s above → (v w h d : ℕ) → IsBare v w h d base → IsWithoutBitmaps base → (told base).given ≡ nothing_told.given → AreSpelled t base → (n : ℕ) → AreSpelled t (glyphs_over above base n)
-over_spelled one s t above base g v w h d bare b e k zero = k
-over_spelled one s t above base g v w h d bare b e k (suc n) =
-    step (list_all (λ row. row == 0) ((told above).glyphs (32 + n))) refl (over_spelled one s t above base g v w h d bare b e k n)
+pub over_spelled : (s t : Setting) (above base : List Statement) → AreGoodLines s above → AreWritten s above → (v w h d : ℕ) → IsBare v w h d base → IsWithoutBitmaps base → (told base).given ≡ nothing_told.given → AreSpelled t base → (n : ℕ) → AreSpelled t (glyphs_over above base n)
+over_spelled s t above base g written v w h d bare b e k zero = k
+over_spelled s t above base g written v w h d bare b e k (suc n) =
+    step (list_all (λ row. row == 0) ((told above).glyphs (32 + n))) refl (over_spelled s t above base g written v w h d bare b e k n)
   where
     below : List Statement
     below = glyphs_over above base n
@@ -163,12 +163,12 @@ over_spelled one s t above base g v w h d bare b e k (suc n) =
     here_bare : IsBare v w h d below
     here_bare = bare_over above base v w h d n bare
 
-    at : list_all (λ row. row == 0) ((told above).glyphs (32 + n)) ≡ false → IsGlyphRead s (32 + n) ((told above).glyphs (32 + n)) → line_read t (told below) (spelled (GlyphLine (32 + n) ((told above).glyphs (32 + n)))) ≡ Ok (GlyphLine (32 + n) ((told above).glyphs (32 + n)))
+    at : list_all (λ row. row == 0) ((told above).glyphs (32 + n)) ≡ false → IsGlyphRead s (32 + n) ((told above).glyphs (32 + n)) → IsWritten t below (GlyphLine (32 + n) ((told above).glyphs (32 + n)))
     at set (inl z) = absurd (false≢true (sym set ∙ ap (list_all (λ row. row == 0)) z))
     at set (inr found) =
-        glyph_again one s t v w h d (32 + n) ((told above).glyphs (32 + n)) found.0 below found.1 here_bare (unmapped_over above base n b) (new_over above base e n (32 + n) (omega arith))
+        glyph_again s t v w h d (32 + n) ((told above).glyphs (32 + n)) found.0 below found.1 found.2 here_bare (unmapped_over above base n b) (new_over above base e n (32 + n) (omega arith))
 
     step : (t' : Bool) → list_all (λ row. row == 0) ((told above).glyphs (32 + n)) ≡ t' → AreSpelled t below → AreSpelled t (cond t' [] (GlyphLine (32 + n) ((told above).glyphs (32 + n)) ∷ []) ++ below)
     step true set rest = rest
     step false set rest =
-        (at set (glyph_read s above g (32 + n)), isnt_passed below (spelled (GlyphLine (32 + n) ((told above).glyphs (32 + n)))) refl (due_bare v w h d below here_bare), rest)
+        (at set (glyph_read s above g written (32 + n)), isnt_passed below (spelled (GlyphLine (32 + n) ((told above).glyphs (32 + n)))) refl (due_bare v w h d below here_bare), rest)

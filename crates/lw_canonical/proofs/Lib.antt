@@ -6,6 +6,10 @@ pub mod SpelledStatements
 pub mod SpelledLayers
 pub mod OneSpelling
 pub mod ReadsAgain
+pub mod PlainWords
+pub mod WrittenNumbers
+pub mod ReadsForward
+pub mod LinesWritten
 pub mod BitmapsKept
 pub mod BitmapsSpelled
 pub mod GlyphsInOrder

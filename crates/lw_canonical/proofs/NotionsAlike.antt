@@ -3,9 +3,10 @@ use Rattle.std.proofs.Common.{◌≡◌, ℕ, ◌+◌, ◌-◌, ◌≤◌, ◌==
 use Rattle.lw_calls.specs.declared.group.Hold.{Hold}
 use Rattle.lw_calls.specs.declared.group.Hold.TheVariants.{Slot, All as AllLayers}
 use Rattle.lw_grammar.specs.declared.verb.BareVerb.TheVariants.{Refresh as RefreshVerb}
-use Rattle.lw_grammar.specs.Statements.{Act, BareAct, EndRefreshAct, Statement, LayersLine, ScreenLine, GlyphLine, BitmapLine, RowLine, TaskLine, EndLine, OrderLine, NumbersLine, ReportLine, CallLine, LockLine, UnlockLine, HoldLine, ReleaseLine, version_at_screen}
+use Rattle.lw_grammar.specs.Statements.{Act, BareAct, EndRefreshAct, Statement, LayersLine, ScreenLine, GlyphLine, BitmapLine, RowLine, PatternLine, TaskLine, EndLine, OrderLine, NumbersLine, ReportLine, CallLine, LockLine, UnlockLine, HoldLine, ReleaseLine, version_at_screen}
 use Rattle.lw_grammar.specs.Told.{Section, ScreenIsDue, AssetsAreDue, CallsAreDue, TasksAreDue, NumbersAreDue, NothingIsDue, nothing_told, and_name, and_names, place_among, onto_last, spelled_call, call_below, makes_super, hook_on, and_hook, left_open_by, group_from, told}
-use Rattle.lw_grammar.specs.Script.{Setting, are_calls_due, are_tasks_due, are_numbers_due, AreGoodLines}
+use Rattle.lw_grammar.specs.Script.{Setting, are_calls_due, are_tasks_due, are_numbers_due}
+use Rattle.lw_grammar.specs.GoodLines.{AreGoodLines}
 use Rattle.lw_grammar.proofs.ScriptOutcome.{rows_in_assets}
 use Rattle.lw_grammar.proofs.ScriptSizes.{here, has_begun, has_screen, in_screen, in_assets, in_calls, in_tasks, in_numbers, in_assets_or_tasks, version_first}
 use Rattle.lw_canonical.proofs.Rearranged.{is_of_tasks, IsBaseOf}
@@ -36,7 +37,7 @@ calls_begun c e = ap has_begun (in_calls c e)
 both_begun : (c : Section) → has_begun c ≡ true → has_begun c ≡ false → ⊥
 both_begun c e n = true≢false (sym e ∙ n)
 
--- the version, the screen line, a glyph, a bitmap or a row leaves lines bare
+-- the version, the screen line, a glyph, a bitmap, a row or a pattern leaves lines bare
 layers_bare : (above : List Statement) → AreBare above → AreBare (LayersLine ∷ above)
 layers_bare above b =
     record { of_tasks = b.of_tasks; tasks = b.tasks; names = b.names; supers = b.supers; hooks = b.hooks; group = b.group; so_far = b.so_far; began = b.began; calls = b.calls; groups = b.groups }
@@ -57,6 +58,10 @@ row_bare : (above : List Statement) (bytes : List ℕ) → AreBare above → Are
 row_bare above bytes b =
     record { of_tasks = b.of_tasks; tasks = b.tasks; names = b.names; supers = b.supers; hooks = b.hooks; group = b.group; so_far = b.so_far; began = b.began; calls = b.calls; groups = b.groups }
 
+pattern_bare : (above : List Statement) (name words : List ℕ) → AreBare above → AreBare (PatternLine name words ∷ above)
+pattern_bare above name words b =
+    record { of_tasks = b.of_tasks; tasks = b.tasks; names = b.names; supers = b.supers; hooks = b.hooks; group = b.group; so_far = b.so_far; began = b.began; calls = b.calls; groups = b.groups }
+
 -- Good lines are bare as long as no task has begun.
 pub bare : (s : Setting) (above : List Statement) → AreGoodLines s above → has_begun (told above).section ≡ false → AreBare above
 bare s [] g n =
@@ -67,6 +72,7 @@ bare s (ScreenLine w h d ∷ above) g n =
 bare s (GlyphLine code rows ∷ above) g n = glyph_bare above code rows (bare s above g.1 n)
 bare s (BitmapLine name w h d ∷ above) g n = bitmap_bare above name w h d (bare s above g.1 n)
 bare s (RowLine bytes ∷ above) g n = row_bare above bytes (bare s above g.1 n)
+bare s (PatternLine name words ∷ above) g n = pattern_bare above name words (bare s above g.1 n)
 bare s (TaskLine name ∷ above) g n = absurd (true≢false n)
 bare s (EndLine ∷ above) g n = absurd (true≢false n)
 bare s (OrderLine ∷ above) g n = absurd (true≢false n)
@@ -87,7 +93,7 @@ section_alone TasksAreDue = TasksAreDue
 section_alone NumbersAreDue = TasksAreDue
 section_alone NothingIsDue = TasksAreDue
 
--- other lines that tell the same, but for an order and a report
+-- other lines that tell the same, but for an order and a report, and no pattern
 pub record AreAlike (above new : List Statement) : Type 0 where
   pub version : (told new).version ≡ (told above).version
   pub section : (told new).section ≡ section_alone (told above).section
@@ -96,6 +102,7 @@ pub record AreAlike (above new : List Statement) : Type 0 where
   pub height : (told new).height ≡ (told above).height
   pub depth : (told new).depth ≡ (told above).depth
   pub bitmap_names : (told new).bitmap_names ≡ (told above).bitmap_names
+  pub patterns : (told new).pattern_names ≡ []
   pub glyphs : (code : ℕ) → 32 ≤ code → code ≤ 126 → (told new).glyphs code ≡ (told above).glyphs code
   pub bitmaps : (told new).bitmaps [] ≡ (told above).bitmaps []
   pub tasks : (told new).tasks ≡ (told above).tasks
@@ -119,6 +126,7 @@ base_alike above base c n b =
       height = b.height;
       depth = b.depth;
       bitmap_names = b.bitmap_names;
+      patterns = b.patterns;
       glyphs = b.glyphs;
       bitmaps = b.bitmaps;
       tasks = b.tasks ∙ sym n.tasks;
@@ -192,6 +200,11 @@ module _ (above new : List Statement) (a : AreAlike above new) where
   more_bitmap_names : (f : Statement) → (told (f ∷ new)).bitmap_names ≡ (told (f ∷ above)).bitmap_names
   more_bitmap_names (BitmapLine name w h d) = ap (λ names. names ++ name ∷ []) a.bitmap_names
   more_bitmap_names f = a.bitmap_names
+
+  -- no pattern
+  more_patterns : (f : Statement) → is_of_tasks f ≡ true → (told (f ∷ new)).pattern_names ≡ []
+  more_patterns (PatternLine name words) t = absurd (false≢true t)
+  more_patterns f t = a.patterns
 
   -- the glyphs
   more_glyphs : (f : Statement) (code : ℕ) → 32 ≤ code → code ≤ 126 → (told (f ∷ new)).glyphs code ≡ (told (f ∷ above)).glyphs code
@@ -278,6 +291,7 @@ module _ (above new : List Statement) (a : AreAlike above new) where
         height = more_height f;
         depth = more_depth f;
         bitmap_names = more_bitmap_names f;
+        patterns = more_patterns f t;
         glyphs = more_glyphs f;
         bitmaps = more_bitmaps f t;
         tasks = more_tasks f;
@@ -291,13 +305,14 @@ module _ (above new : List Statement) (a : AreAlike above new) where
         groups = more_groups f;
       }
 
--- the line stands after all glyphs and bitmaps
+-- the line stands after all glyphs, bitmaps and patterns
 abbrev pub is_behind : Statement → Bool
 is_behind LayersLine = false
 is_behind (ScreenLine w h d) = false
 is_behind (GlyphLine code rows) = false
 is_behind (BitmapLine name w h d) = false
 is_behind (RowLine bytes) = false
+is_behind (PatternLine name words) = false
 is_behind f = true
 
 -- without such a line the lines have the same base
@@ -307,6 +322,7 @@ base_below (ScreenLine w h d) above base t b = absurd (false≢true t)
 base_below (GlyphLine code rows) above base t b = absurd (false≢true t)
 base_below (BitmapLine name w h d) above base t b = absurd (false≢true t)
 base_below (RowLine bytes) above base t b = absurd (false≢true t)
+base_below (PatternLine name words) above base t b = absurd (false≢true t)
 base_below f above base t b =
     record {
       version = b.version;
@@ -316,6 +332,7 @@ base_below f above base t b =
       height = b.height;
       depth = b.depth;
       bitmap_names = b.bitmap_names;
+      patterns = b.patterns;
       glyphs = b.glyphs;
       bitmaps = b.bitmaps;
       tasks = b.tasks;
@@ -342,6 +359,7 @@ alike_behind above new (ScreenLine w h d) t c a = absurd (false≢true t)
 alike_behind above new (GlyphLine code rows) t c a = absurd (false≢true t)
 alike_behind above new (BitmapLine name w h d) t c a = absurd (false≢true t)
 alike_behind above new (RowLine bytes) t c a = absurd (false≢true t)
+alike_behind above new (PatternLine name words) t c a = absurd (false≢true t)
 alike_behind above new (TaskLine name) t c a = absurd (false≢true t)
 alike_behind above new EndLine t c a = absurd (false≢true t)
 alike_behind above new (CallLine layers act) t c a = absurd (false≢true t)
@@ -358,6 +376,7 @@ alike_behind above new f t c a =
       height = a.height;
       depth = a.depth;
       bitmap_names = a.bitmap_names;
+      patterns = a.patterns;
       glyphs = a.glyphs;
       bitmaps = a.bitmaps;
       tasks = a.tasks;
@@ -406,6 +425,8 @@ alike s (BitmapLine name w h d ∷ above) base g e b =
     assets_alike s (BitmapLine name w h d ∷ above) base g (in_assets (told above).section (here s above (BitmapLine name w h d) g).1) b
 alike s (RowLine bytes ∷ above) base g e b =
     assets_alike s (RowLine bytes ∷ above) base g (in_assets (told above).section (rows_in_assets s above g.1 (here s above (RowLine bytes) g).0)) b
+alike s (PatternLine name words ∷ above) base g e b =
+    assets_alike s (PatternLine name words ∷ above) base g (in_assets (told above).section (here s above (PatternLine name words) g).1) b
 alike s (TaskLine name ∷ above) base g e b =
     alike_more above _ (alike s above base g.1 (in_assets_or_tasks (told above).section (here s above (TaskLine name) g).1) (base_below (TaskLine name) above base refl b)) (TaskLine name) refl
 alike s (EndLine ∷ above) base g e b =

@@ -5,17 +5,17 @@ use Rattle.std.specs.Result.{IfOk}
 use Rattle.lw_grammar.specs.declared.reason.Reason.{Reason}
 use Rattle.lw_grammar.specs.declared.reason.Reason.TheVariants.{LineTooLong, BadByte, UnknownWord, Misplaced, Form as FormReason, Range}
 use Rattle.lw_grammar.specs.declared.verb.Verb.{Verb}
-use Rattle.lw_grammar.specs.declared.verb.Verb.TheVariants.{Part, Bare, Number, Pair, Text, Rect, Region, ClearRegion, Create, Open, InFront, Box, Which, Fill, ScrollRaster, Put, Blit, EndRefresh}
+use Rattle.lw_grammar.specs.declared.verb.Verb.TheVariants.{Part, Bare, Number, Pair, Text, Rect, Region, ClearRegion, Create, Open, InFront, Box, Which, Fill, ScrollRaster, Put, Blit, EndRefresh, Area as AreaVerb, AreaPattern as AreaPatternVerb}
 use Rattle.lw_grammar.specs.Demands.{◌>>=◌, demand}
 use Rattle.lw_grammar.specs.Lines.{lines}
-use Rattle.lw_grammar.specs.Tokens.{tokens, Token, token_of}
+use Rattle.lw_grammar.specs.Tokens.{tokens, Token, NameToken, token_of}
 use Rattle.lw_grammar.specs.Verbs.{verb_word, verb_of}
-use Rattle.lw_grammar.specs.Statements.{BoxAct, FillAct, Statement, row_line, numbers_line, statement_by, is_line_in_range}
+use Rattle.lw_grammar.specs.Statements.{BoxAct, FillAct, Statement, Line, StatementLine, AreaLine, row_line, numbers_line, area_points, area_line, area_pattern_line, statement_by, line_by, is_line_in_range}
 use Rattle.lw_grammar.specs.Told.{told}
-use Rattle.lw_grammar.specs.Script.{Setting, line_limit, is_printable, are_numbers_due, is_known_in, belongs_in, words_read, verb_read, statement_read, statement_tested, line_read}
+use Rattle.lw_grammar.specs.Script.{Setting, line_limit, is_printable, are_numbers_due, is_known_in, belongs_in, words_read, verb_read, stated, line_made, line_tested, line_read}
 use Rattle.lw_calls.specs.Written.{line_of}
 use Rattle.lw_canonical.specs.Spelling.{joined, words_of, spelled}
-use Rattle.lw_canonical.proofs.Rearranged.{HasOneSpelling}
+use Rattle.lw_grammar.proofs.ScriptStatements.{map_has, map_all, found_has}
 use Rattle.lw_canonical.proofs.SpelledVerbs.{IsWordOf, verb_spelled}
 use Rattle.lw_canonical.proofs.SpelledWords.{AreWords, AreWordsOf, words_joined, token_word, tokens_back, tokens_good}
 use Rattle.lw_canonical.proofs.SpelledRanges.{rect_small, place_and_size_small, also}
@@ -44,36 +44,54 @@ statement_spelt ScrollRaster ts = scrollraster_spelt ts
 statement_spelt Put ts = put_spelt ts
 statement_spelt Blit ts = blit_spelt ts
 statement_spelt EndRefresh ts = endrefresh_spelt ts
+statement_spelt AreaVerb ts = tt
+statement_spelt AreaPatternVerb ts = tt
 
 -- The statement's words are these, where it is in range and the words are good ones.
 abbrev IsOfWords : List (List ℕ) → Statement → Type 0
 IsOfWords ws f = AreWords ws → (version : ℕ) → is_line_in_range version f ≡ true → words_of f ≡ ws
+
+-- The same of a line's statement; an area isn't asked.
+abbrev SaysWords : List (List ℕ) → Line → Type 0
+SaysWords ws (StatementLine f) = IsOfWords ws f
+SaysWords ws (AreaLine layer pattern points) = Unit {0}
+
+-- an area
+area_words : (ws : List (List ℕ)) (ts : List Token) → IfSome (area_line ts) (SaysWords ws)
+area_words ws (NameToken l ∷ ts) = map_all (SaysWords ws) (λ ps. AreaLine l None ps) (area_points ts) (λ ps. tt)
+area_words ws _ = tt
+
+area_pattern_words : (ws : List (List ℕ)) (ts : List Token) → IfSome (area_pattern_line ts) (SaysWords ws)
+area_pattern_words ws (NameToken l ∷ NameToken n ∷ ts) = map_all (SaysWords ws) (λ ps. AreaLine l (Some n) ps) (area_points ts) (λ ps. tt)
+area_pattern_words ws _ = tt
 
 -- a statement without a verb, by what its words are
 by_tokens : (ws : List (List ℕ)) (f : Statement) → HasWords (map token_word (map token_of ws)) (map token_of ws) f → IsOfWords ws f
 by_tokens ws f h good v r = h (tokens_good ws) v r ∙ tokens_back ws good
 
 -- the same of a statement that is found, or not
-found_words : (ws : List (List ℕ)) (o : Option Statement) → IfSome o (HasWords (map token_word (map token_of ws)) (map token_of ws)) → IfOk (ok_or o FormReason) (IsOfWords ws)
+found_words : (ws : List (List ℕ)) (o : Option Statement) → IfSome o (HasWords (map token_word (map token_of ws)) (map token_of ws)) → IfOk (ok_or (stated o) FormReason) (SaysWords ws)
 found_words ws None h = tt
 found_words ws (Some f) h = by_tokens ws f h
 
--- a statement with a verb
-by_verb : (w : List ℕ) (v : Verb) (ws : List (List ℕ)) → IsWordOf w v → (o : Option Statement) → IfSome o (IsSpelt (verb_word v) (map token_of ws)) → IfOk (ok_or o FormReason) (IsOfWords (w ∷ ws))
-by_verb w v ws e None h = tt
-by_verb w v ws e (Some f) h = λ good version r. h (tokens_good ws) version r ∙ also (sym e) (tokens_back ws good.1)
+-- a line with a verb
+by_verb : (w : List ℕ) (v : Verb) (ws : List (List ℕ)) → IsWordOf w v → IfSome (line_by v (map token_of ws)) (SaysWords (w ∷ ws))
+by_verb w AreaVerb ws e = area_words (w ∷ ws) (map token_of ws)
+by_verb w AreaPatternVerb ws e = area_pattern_words (w ∷ ws) (map token_of ws)
+by_verb w v ws e =
+    map_has (IsSpelt (verb_word v) (map token_of ws)) (SaysWords (w ∷ ws)) (λ f. StatementLine f) (statement_by v (map token_of ws)) (statement_spelt v (map token_of ws)) (λ f h good version r. h (tokens_good ws) version r ∙ also (sym e) (tokens_back ws good.1))
 
 -- a line that begins with a verb
-verb_words : (s : Setting) (above : List Statement) (ws : List (List ℕ)) → IfOk (verb_read s.form (told above).version (told above).section ws) (IsOfWords ws)
+verb_words : (s : Setting) (above : List Statement) (ws : List (List ℕ)) → IfOk (verb_read s.form (told above).version (told above).section ws) (SaysWords ws)
 verb_words s above [] = tt
 verb_words s above (w ∷ ws) = at_verb (verb_of w) (verb_spelled w)
   where
-    at_tests : (v : Verb) → IsWordOf w v → (a b : Bool) → IfOk (demand a UnknownWord >>= (λ _. demand b Misplaced >>= (λ _. ok_or (statement_by v (map token_of ws)) FormReason))) (IsOfWords (w ∷ ws))
+    at_tests : (v : Verb) → IsWordOf w v → (a b : Bool) → IfOk (demand a UnknownWord >>= (λ _. demand b Misplaced >>= (λ _. ok_or (line_by v (map token_of ws)) FormReason))) (SaysWords (w ∷ ws))
     at_tests v e false b = tt
     at_tests v e true false = tt
-    at_tests v e true true = by_verb w v ws e (statement_by v (map token_of ws)) (statement_spelt v (map token_of ws))
+    at_tests v e true true = found_has (SaysWords (w ∷ ws)) _ FormReason (by_verb w v ws e)
 
-    at_verb : (o : Option Verb) → IfSome o (IsWordOf w) → IfOk (ok_or o UnknownWord >>= (λ v. demand (is_known_in (told above).version v) UnknownWord >>= (λ _. demand (belongs_in s.form (told above).version (told above).section v) Misplaced >>= (λ _. ok_or (statement_by v (map token_of ws)) FormReason)))) (IsOfWords (w ∷ ws))
+    at_verb : (o : Option Verb) → IfSome o (IsWordOf w) → IfOk (ok_or o UnknownWord >>= (λ v. demand (is_known_in (told above).version v) UnknownWord >>= (λ _. demand (belongs_in s.form (told above).version (told above).section v) Misplaced >>= (λ _. ok_or (line_by v (map token_of ws)) FormReason)))) (SaysWords (w ∷ ws))
     at_verb None e = tt
     at_verb (Some v) e = at_tests v e (is_known_in (told above).version v) (belongs_in s.form (told above).version (told above).section v)
 
@@ -83,9 +101,9 @@ either_ok P true x y h k = h
 either_ok P false x y h k = k
 
 -- the statement that is read has the line's words
-statement_words : (s : Setting) (above : List Statement) (ws : List (List ℕ)) → IfOk (statement_read s.form (told above).version (told above).section (told above).rows_due (told above).row_width ws) (IsOfWords ws)
+statement_words : (s : Setting) (above : List Statement) (ws : List (List ℕ)) → IfOk (line_made s.form (told above).version (told above).section (told above).rows_due (told above).row_width ws) (SaysWords ws)
 statement_words s above ws =
-    either_ok (IsOfWords ws) (not ((told above).rows_due == 0)) _ _ (found_words ws (row_line (told above).row_width (map token_of ws)) (row_spelt (told above).row_width (map token_of ws))) (either_ok (IsOfWords ws) (are_numbers_due (told above).section) _ _ (found_words ws (numbers_line (map token_of ws)) (numbers_spelt (map token_of ws))) (verb_words s above ws))
+    either_ok (SaysWords ws) (not ((told above).rows_due == 0)) _ _ (found_words ws (row_line (told above).row_width (map token_of ws)) (row_spelt (told above).row_width (map token_of ws))) (either_ok (SaysWords ws) (are_numbers_due (told above).section) _ _ (found_words ws (numbers_line (map token_of ws)) (numbers_spelt (map token_of ws))) (verb_words s above ws))
 
 -- what was handed on, and what it gave
 handed_on : {A B : Type 0} (r : Result A Reason) (f : A → Result B Reason) (b : B) → (r >>= f) ≡ Ok b → (a : A) × (r ≡ Ok a) × (f a ≡ Ok b)
@@ -102,25 +120,26 @@ pub record IsReading (s : Setting) (above : List Statement) (line : List ℕ) (f
   pub printable : list_all is_printable line ≡ true
   pub ws : List (List ℕ)
   pub split : tokens line ≡ Ok ws
-  pub statement : statement_read s.form (told above).version (told above).section (told above).rows_due (told above).row_width ws ≡ Ok f
+  pub statement : line_made s.form (told above).version (told above).section (told above).rows_due (told above).row_width ws ≡ Ok (StatementLine f)
   pub range : is_line_in_range (told above).version f ≡ true
 
 -- the statement that was tested is the one that was told
-told_statement : (s : Setting) (above : List Statement) (g f : Statement) (h : (statement_tested s (told above) g >>= (λ _. Ok g)) ≡ Ok f) → (g ≡ f) × (is_line_in_range (told above).version f ≡ true)
-told_statement s above g f h =
-    let t = handed_on (statement_tested s (told above) g) (λ _. Ok g) f h in
-    let same : g ≡ f = cc in
-    let tested = demanded (is_line_in_range (told above).version g) Range _ _ t.1 in
-    (same, subst (λ k. is_line_in_range (told above).version k ≡ true) same tested.0)
+told_statement : (s : Setting) (above : List Statement) (l : Line) (f : Statement) (h : (line_tested s (told above) l >>= (λ _. Ok l)) ≡ Ok (StatementLine f)) → (l ≡ StatementLine f) × (is_line_in_range (told above).version f ≡ true)
+told_statement s above l f h =
+    let t = handed_on (line_tested s (told above) l) (λ _. Ok l) (StatementLine f) h in
+    let same : l ≡ StatementLine f = cc in
+    let passed : line_tested s (told above) (StatementLine f) ≡ Ok t.0 = subst (λ (k : Line). line_tested s (told above) k ≡ Ok t.0) same t.1 in
+    let tested = demanded (is_line_in_range (told above).version f) Range _ _ passed in
+    (same, tested.0)
 
-pub reading : (s : Setting) (above : List Statement) (line : List ℕ) (f : Statement) → line_read s (told above) line ≡ Ok f → IsReading s above line f
+pub reading : (s : Setting) (above : List Statement) (line : List ℕ) (f : Statement) → line_read s (told above) line ≡ Ok (StatementLine f) → IsReading s above line f
 reading s above line f e =
-    let words = handed_on (words_read line) _ f e in
+    let words = handed_on (words_read line) _ (StatementLine f) e in
     let short = demanded (nat_le (length line) line_limit) LineTooLong _ _ words.1 in
     let clean = demanded (list_all is_printable line) BadByte _ _ short.1 in
-    let statement = handed_on (statement_read s.form (told above).version (told above).section (told above).rows_due (told above).row_width words.0) _ f words.2 in
+    let statement = handed_on (line_made s.form (told above).version (told above).section (told above).rows_due (told above).row_width words.0) _ (StatementLine f) words.2 in
     let told = told_statement s above statement.0 f statement.2 in
-    record { printable = clean.0; ws = words.0; split = clean.1; statement = statement.1 ∙ ap (λ g. Ok g) told.0; range = told.1 }
+    record { printable = clean.0; ws = words.0; split = clean.1; statement = statement.1 ∙ ap (λ (l : Line). Ok l) told.0; range = told.1 }
 
 -- words that are those of a line give it back
 joined_line : (line : List ℕ) (ws : List (List ℕ)) → AreWordsOf line ws → (joined ws ≡ line) × AreWords ws
@@ -128,11 +147,11 @@ joined_line line [] h = absurd h
 joined_line line (w ∷ ws) h = h
 
 -- Each good line has one spelling.
-pub one_spelling : HasOneSpelling
+pub one_spelling : (s : Setting) (above : List Statement) (line : List ℕ) (f : Statement) → line_read s (told above) line ≡ Ok (StatementLine f) → spelled f ≡ line
 one_spelling s above line f e =
     let r = reading s above line f e in
     let words = joined_line line r.ws (IfOk-at_ok (AreWordsOf line) r.split (words_joined line)) in
-    ap joined (IfOk-at_ok (IsOfWords r.ws) r.statement (statement_words s above r.ws) words.1 (told above).version r.range) ∙ words.0
+    ap joined (IfOk-at_ok (SaysWords r.ws) r.statement (statement_words s above r.ws) words.1 (told above).version r.range) ∙ words.0
 
 -- no byte is a line feed
 abbrev pub HasNoFeed : List ℕ → Type 0
@@ -153,7 +172,7 @@ printable_line (b ∷ bs) h =
     and_from (not (b == 10)) _ (printable_byte b k.0) (printable_line bs k.1)
 
 -- A good line has no line feed.
-pub no_feed : (s : Setting) (above : List Statement) (line : List ℕ) (f : Statement) → line_read s (told above) line ≡ Ok f → list_all (λ b. not (b == 10)) line ≡ true
+pub no_feed : (s : Setting) (above : List Statement) (line : List ℕ) (f : Statement) → line_read s (told above) line ≡ Ok (StatementLine f) → list_all (λ b. not (b == 10)) line ≡ true
 no_feed s above line f e = let r = reading s above line f e in printable_line line r.printable
 
 -- a line with its feed is the first of a text that begins with it

@@ -6,7 +6,8 @@ use Rattle.lw_calls.specs.declared.group.Group.{Group}
 use Rattle.lw_calls.specs.Plan.{Plan, task_calls, task_groups}
 use Rattle.lw_grammar.specs.Statements.{Statement, LayersLine, TaskLine, EndLine}
 use Rattle.lw_grammar.specs.Told.{told, plan_of}
-use Rattle.lw_grammar.specs.Script.{Setting, may_end, AreGoodLines}
+use Rattle.lw_grammar.specs.Script.{Setting, may_end}
+use Rattle.lw_grammar.specs.GoodLines.{AreGoodLines}
 use Rattle.lw_canonical.specs.Canonical.{lines_of_task, lines_of_glyph, lines_of_version, lines_of_plan}
 use Rattle.lw_canonical.proofs.Rearranged.{is_of_tasks, is_of_bitmaps, glyphs_in_order, screen_line_of, arranged}
 use Rattle.lw_grammar.proofs.ScriptSizes.{whole_ends}

@@ -3,7 +3,7 @@
 use Rattle.std.proofs.Common.{◌||◌, ◌≡◌, ℕ, ◌+◌, ◌≤◌, Bool, true, false, List, [], ◌∷◌, ◌++◌, filter, reverse, pos, None, Ok}
 use Rattle.std.specs.List.{flat_map, range_with_len}
 use Rattle.lw_grammar.specs.declared.form.Form.TheVariants.{Plain}
-use Rattle.lw_grammar.specs.Statements.{Statement, ScreenLine, BitmapLine, RowLine, TaskLine, EndLine, CallLine, LockLine, UnlockLine, HoldLine, ReleaseLine}
+use Rattle.lw_grammar.specs.Statements.{Statement, ScreenLine, BitmapLine, RowLine, TaskLine, EndLine, CallLine, LockLine, UnlockLine, HoldLine, ReleaseLine, StatementLine}
 use Rattle.lw_grammar.specs.Told.{AssetsAreDue, nothing_told, told}
 use Rattle.lw_grammar.specs.Script.{Setting, is_skipped, is_nothing_due, line_read}
 use Rattle.lw_canonical.specs.Spelling.{spelled}
@@ -55,13 +55,17 @@ is_passed above line = is_skipped line || is_nothing_due (told above).section
 -- each line reads, in its one spelling, as its statement below the others, and isn't passed
 abbrev pub AreSpelled : Setting → List Statement → Type 0
 AreSpelled t [] = Unit {0}
-AreSpelled t (f ∷ above) = (line_read t (told above) (spelled f) ≡ Ok f) × (is_passed above (spelled f) ≡ false) × AreSpelled t above
+AreSpelled t (f ∷ above) = (line_read t (told above) (spelled f) ≡ Ok (StatementLine f)) × (is_passed above (spelled f) ≡ false) × AreSpelled t above
 
--- each good line has one spelling, in which it isn't skipped
-abbrev pub HasOneSpelling : Type 0
-HasOneSpelling = (s : Setting) (above : List Statement) (line : List ℕ) (f : Statement) → line_read s (told above) line ≡ Ok f → spelled f ≡ line
+-- each statement is what its one spelling says below the others
+abbrev pub IsWritten : Setting → List Statement → Statement → Type 0
+IsWritten s above f = line_read s (told above) (spelled f) ≡ Ok (StatementLine f)
 
--- lines that tell of version, screen, glyphs and bitmaps what those above tell, and of nothing else
+abbrev pub AreWritten : Setting → List Statement → Type 0
+AreWritten s [] = Unit {0}
+AreWritten s (f ∷ above) = IsWritten s above f × AreWritten s above
+
+-- lines that tell of version, screen, glyphs and bitmaps what those above tell, and of nothing else, also of no pattern
 pub record IsBaseOf (above base : List Statement) : Type 0 where
   pub version : (told base).version ≡ (told above).version
   pub section : (told base).section ≡ AssetsAreDue
@@ -70,6 +74,7 @@ pub record IsBaseOf (above base : List Statement) : Type 0 where
   pub height : (told base).height ≡ (told above).height
   pub depth : (told base).depth ≡ (told above).depth
   pub bitmap_names : (told base).bitmap_names ≡ (told above).bitmap_names
+  pub patterns : (told base).pattern_names ≡ []
   pub glyphs : (code : ℕ) → 32 ≤ code → code ≤ 126 → (told base).glyphs code ≡ (told above).glyphs code
   pub bitmaps : (told base).bitmaps [] ≡ (told above).bitmaps []
   pub tasks : (told base).tasks ≡ []

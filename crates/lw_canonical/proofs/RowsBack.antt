@@ -1,5 +1,5 @@
 -- The rows of a bitmap that good row lines gave are the rows of its planes.
-use Rattle.std.proofs.Common.{◌≡◌, ℕ, zero, suc, ◌+◌, ◌-◌, ◌*◌, ◌<◌, ◌≤◌, ◌==◌, Bool, false, List, [], ◌∷◌, length, map, slice_index, Option, Some, None, Result, Ok, Err, IfSome, IfOk, ok_or, option_map, sym, ap, subst, ◌∙◌, arith, ⊎_elim}
+use Rattle.std.proofs.Common.{◌≡◌, ℕ, zero, suc, ◌+◌, ◌-◌, ◌*◌, ◌<◌, ◌≤◌, ◌==◌, Bool, false, List, [], ◌∷◌, length, slice_index, sym, ap, ◌∙◌, arith, ⊎_elim}
 use Rattle.std.specs.List.{list_any, range_with_len}
 use Rattle.std.specs.Int.{bit_at}
 use Rattle.lw_planes.specs.Row.{row_bit}
@@ -10,49 +10,12 @@ use Rattle.lw_planes.proofs.RowLaws.{row_bit_lt, row_bit_at}
 use Rattle.lw_planes.proofs.BitmapLaws.{length_plane_row, plane_row_at}
 use Rattle.lw_planes.proofs.StorageLaws.{bit_stored}
 use Rattle.lw_planes.proofs.DefinitionLaws.{plane_bit_inside, plane_bit_padding}
-use Rattle.lw_grammar.specs.declared.reason.Reason.{Reason}
-use Rattle.lw_grammar.specs.declared.reason.Reason.TheVariants.{Form as FormReason}
-use Rattle.lw_grammar.specs.Tokens.{Token, token_of, bytes_in}
-use Rattle.lw_grammar.specs.Statements.{Statement, RowLine, row_line}
-use Rattle.lw_grammar.specs.Told.{told}
-use Rattle.lw_grammar.specs.Script.{Setting, has_padding, words_read, statement_read, statement_tested, IsGoodLine}
-use Rattle.lw_grammar.specs.Demands.{◌>>=◌}
-use Rattle.lw_grammar.proofs.ScriptStatements.{AreBytes, AreSoMany, token_spelled}
+use Rattle.lw_grammar.specs.Statements.{RowLine}
+use Rattle.lw_grammar.specs.Script.{has_padding}
+use Rattle.lw_grammar.specs.GoodLines.{AreBytes}
 use Rattle.std.proofs.lemmas.Bool.{cases_lt, or_parts}
 use Rattle.std.proofs.lemmas.Bool.Decides.{nat_tests}
 use Rattle.std.proofs.lemmas.Grind.{same_number_lists}
-
--- the bytes of a row that was read are bytes
-abbrev IsRowRead : Statement → Type 0
-IsRowRead (RowLine bytes) = AreBytes bytes
-IsRowRead f = Unit {0}
-
-spelled_row : (o : Option (List ℕ)) (count : ℕ) → IfSome o (AreSoMany count) → IfOk (ok_or (option_map (λ bytes. RowLine bytes) o) FormReason) IsRowRead
-spelled_row None count h = tt
-spelled_row (Some bytes) count h = h.1
-
-row_words : (width : ℕ) (ts : List Token) → IfOk (ok_or (row_line width ts) FormReason) IsRowRead
-row_words width [] = tt
-row_words width (t ∷ []) = spelled_row (bytes_in (row_bytes width) t) (row_bytes width) (token_spelled (row_bytes width) t)
-row_words width (t ∷ u ∷ us) = tt
-
-row_statement : (s : Setting) (above : List Statement) (ws : List (List ℕ)) → ((told above).rows_due == 0) ≡ false → IfOk (statement_read s.form (told above).version (told above).section (told above).rows_due (told above).row_width ws) IsRowRead
-row_statement s above ws e = rw e (row_words (told above).row_width (map token_of ws))
-
-row_tested : (f g : Statement) (t : Result (Unit {0}) Reason) → (t >>= (λ _. Ok f)) ≡ Ok g → IsRowRead f → IsRowRead g
-row_tested f g (Ok u) d h = let same : f ≡ g = cc in subst IsRowRead same h
-row_tested f g (Err r) d h = absurd (cc)
-
-row_read : (s : Setting) (above : List Statement) (g : Statement) (t : Result (List (List ℕ)) Reason) → ((told above).rows_due == 0) ≡ false → (t >>= (λ ws. statement_read s.form (told above).version (told above).section (told above).rows_due (told above).row_width ws >>= (λ f. statement_tested s (told above) f >>= (λ _. Ok f)))) ≡ Ok g → IsRowRead g
-row_read s above g (Err r) e d = absurd (cc)
-row_read s above g (Ok ws) e d = at_statement (statement_read s.form (told above).version (told above).section (told above).rows_due (told above).row_width ws) (row_statement s above ws e) d
-  where
-    at_statement : (r : Result Statement Reason) → IfOk r IsRowRead → (r >>= (λ f. statement_tested s (told above) f >>= (λ _. Ok f))) ≡ Ok g → IsRowRead g
-    at_statement (Err r) h d = absurd (cc)
-    at_statement (Ok f) h d = row_tested f g (statement_tested s (told above) f) d h
-
-pub row_are_bytes : (s : Setting) (above : List Statement) (bytes : List ℕ) → ((told above).rows_due == 0) ≡ false → IsGoodLine s above (RowLine bytes) → AreBytes bytes
-row_are_bytes s above bytes e g = row_read s above (RowLine bytes) (words_read g.line) e g.read
 
 -- a row of a bitmap of this width: its bytes, without bits in the padding
 pub record IsRow (w : ℕ) (row : List ℕ) : Type 0 where

@@ -19,11 +19,11 @@ use Rattle.lw_grammar.proofs.ScriptNames.{equal_names}
 use Rattle.std.proofs.Math.Bool.{or-false}
 
 -- each of these is a decimal digit
-abbrev AreDigits : List ℕ → Type 0
+abbrev pub AreDigits : List ℕ → Type 0
 AreDigits ds = list_all is_a_digit ds ≡ true
 
 -- so says the test of digits
-tells_digits_so : IsDigitsTest AreDigits
+pub tells_digits_so : IsDigitsTest AreDigits
 tells_digits_so = record {
   empty = refl;
   parts = λ c cs e. let k = and_parts (is_a_digit c) (list_all is_a_digit cs) e in let m = and_parts (nat_le 48 c) (nat_le c 57) k.0 in ((leb-true 48 c m.0, leb-true c 57 m.1), k.1);

@@ -1,5 +1,5 @@
 -- The words of each statement are those that it was read from, where its numbers are in their ranges.
-use Rattle.std.proofs.Common.{◌≡◌, ℕ, ◌*◌, ◌%◌, ◌==◌, true, ◌&&◌, nat_le, List, [], ◌∷◌, length, map, ℤ, pos, codes, bytes_eq, Option, Some, None, IfSome, refl, sym, ◌∙◌, arith}
+use Rattle.std.proofs.Common.{◌≡◌, ℕ, ◌+◌, ◌*◌, ◌/◌, ◌%◌, ◌≤◌, ◌==◌, true, ◌&&◌, nat_le, List, [], ◌∷◌, length, map, ℤ, pos, codes, bytes_eq, Option, Some, None, option_map, option_and_then, IfSome, refl, sym, ap₂, ◌∙◌, arith}
 use Rattle.std.specs.List.{list_all}
 use Rattle.std.specs.Fmt.{signed_decimal}
 use Rattle.lw_region.specs.Rectangle.{Rectangle, within}
@@ -11,16 +11,16 @@ use Rattle.lw_calls.specs.Limits.{limits_of, coordinates_fit, is_extent}
 use Rattle.lw_calls.proofs.LimitLaws.{screen_at_most}
 use Rattle.lw_calls.specs.declared.area.Area.{Area}
 use Rattle.lw_grammar.specs.declared.verb.PartVerb.{PartVerb}
-use Rattle.lw_grammar.specs.declared.verb.PartVerb.TheVariants.{Layers as LayersVerb, Screen as ScreenVerb, Glyph as GlyphVerb, Bitmap as BitmapVerb, Task as TaskVerb, End as EndVerb, Order as OrderVerb, Report as ReportVerb, Lock as LockVerb, Unlock as UnlockVerb, Hold as HoldVerb, Release as ReleaseVerb}
+use Rattle.lw_grammar.specs.declared.verb.PartVerb.TheVariants.{Layers as LayersVerb, Screen as ScreenVerb, Glyph as GlyphVerb, Bitmap as BitmapVerb, Pattern as PatternVerb, Task as TaskVerb, End as EndVerb, Order as OrderVerb, Report as ReportVerb, Lock as LockVerb, Unlock as UnlockVerb, Hold as HoldVerb, Release as ReleaseVerb}
 use Rattle.lw_grammar.specs.declared.verb.BareVerb.{BareVerb}
 use Rattle.lw_grammar.specs.declared.verb.NumberVerb.{NumberVerb}
 use Rattle.lw_grammar.specs.declared.verb.PairVerb.{PairVerb}
 use Rattle.lw_grammar.specs.declared.verb.TextVerb.{TextVerb}
 use Rattle.lw_grammar.specs.Verbs.{part_word, bare_word, number_word, pair_word, text_verb_word, rect_word, region_word}
-use Rattle.lw_grammar.specs.Statements.{Act, Statement, LayersLine, RowLine, TaskLine, EndLine, OrderLine, NumbersLine, ReportLine, LockLine, UnlockLine, HoldLine, ReleaseLine, four, layers_line, screen_line, glyph_of_bytes, glyph_line, bitmap_line, row_line, all_numbers, numbers_limit, numbers_line, name_line, alone_line, part_line, layer_line, number_line, pair_line, text_line, rect_line, region_line, clear_line, which_line, infront_line, four_line, scrollraster_line, minterm_of, put_line, blit_line, endrefresh_line, is_area_in_range, is_act_in_range, version_at_screen, bitmap_size_limit, is_line_in_range}
+use Rattle.lw_grammar.specs.Statements.{Act, Statement, LayersLine, RowLine, PatternLine, TaskLine, EndLine, OrderLine, NumbersLine, ReportLine, LockLine, UnlockLine, HoldLine, ReleaseLine, four, layers_line, screen_line, glyph_of_bytes, glyph_line, bitmap_line, row_line, pattern_word, pattern_words, is_pattern_count, pattern_line, all_numbers, numbers_limit, numbers_line, name_line, alone_line, part_line, layer_line, number_line, pair_line, text_line, rect_line, region_line, clear_line, which_line, infront_line, four_line, scrollraster_line, minterm_of, put_line, blit_line, endrefresh_line, is_area_in_range, is_act_in_range, version_at_screen, bitmap_size_limit, is_line_in_range}
 use Rattle.lw_calls.specs.Written.{hex_byte}
-use Rattle.lw_canonical.specs.Spelling.{hex_word, four_words, call_words, words_of}
-use Rattle.lw_grammar.proofs.ScriptStatements.{either_has, map_has, twice_has}
+use Rattle.lw_canonical.specs.Spelling.{hex_word, four_words, call_words, pattern_digits, words_of}
+use Rattle.lw_grammar.proofs.ScriptStatements.{either_has, map_has, twice_has, AreSoMany, token_spelled}
 use Rattle.lw_grammar.proofs.ScriptNames.{equal_names}
 use Rattle.lw_canonical.proofs.SpelledNumbers.{hex_written, found_if}
 use Rattle.lw_canonical.proofs.SpelledWords.{token_word, AreTokens}
@@ -100,6 +100,34 @@ pub numbers_spelt : (ts : List Token) → IfSome (numbers_line ts) (HasWords (ma
 numbers_spelt ts =
     either_has (HasWords (map token_word ts) ts) (nat_le (length ts) numbers_limit) _ None (map_has (AreNumbers ts) (HasWords (map token_word ts) ts) (λ zs. NumbersLine zs) (all_numbers ts) (all_spelt ts) (λ zs h t v r. h t r)) tt
 
+-- a word of a pattern, in its four digits
+word_spelt : (word : List ℕ) (o : Option (List ℕ)) → IfSome o (AreSoMany 2) → IfSome o (λ bytes. hex_word bytes ≡ word) → IfSome (pattern_word o) (λ w. pattern_digits w ≡ word)
+word_spelt word None h k = tt
+word_spelt word (Some []) h k = tt
+word_spelt word (Some (a ∷ [])) h k = tt
+word_spelt word (Some (a ∷ b ∷ [])) h k =
+    let low : b ≤ 255 = h.1.1.0 in
+    let high : (a * 256 + b) / 256 ≡ a = omega (arith, low) in
+    let rest : (a * 256 + b) % 256 ≡ b = omega (arith, low) in
+    ap₂ (λ x y. hex_word (x ∷ y ∷ [])) high rest ∙ k
+word_spelt word (Some (a ∷ b ∷ c ∷ cs)) h k = tt
+
+-- those of a pattern
+words_spelt : (ts : List Token) → IfSome (pattern_words ts) (λ ws. map pattern_digits ws ≡ map token_word ts)
+words_spelt [] = refl
+words_spelt (t ∷ ts) = at_word (pattern_word (bytes_in 2 t)) (word_spelt (token_word t) (bytes_in 2 t) (token_spelled 2 t) (token_bytes 2 t)) (words_spelt ts)
+  where
+    at_word : (o : Option ℕ) → IfSome o (λ w. pattern_digits w ≡ token_word t) → IfSome (pattern_words ts) (λ ws. map pattern_digits ws ≡ map token_word ts) → IfSome (option_and_then (λ w. option_map (λ ws. w ∷ ws) (pattern_words ts)) o) (λ ws. map pattern_digits ws ≡ token_word t ∷ map token_word ts)
+    at_word None h k = tt
+    at_word (Some w) h k =
+        map_has (λ ws. map pattern_digits ws ≡ map token_word ts) (λ ws. map pattern_digits ws ≡ token_word t ∷ map token_word ts) (λ ws. w ∷ ws) (pattern_words ts) k (λ ws e. also h e)
+
+-- pattern PN HHHH ..
+pub pattern_spelt : (ts : List Token) → IfSome (pattern_line ts) (IsSpelt (codes "pattern") ts)
+pattern_spelt (NameToken n ∷ ts) =
+    either_has (IsSpelt (codes "pattern") (NameToken n ∷ ts)) (is_pattern_count (length ts)) _ None (map_has (λ ws. map pattern_digits ws ≡ map token_word ts) (IsSpelt (codes "pattern") (NameToken n ∷ ts)) (λ ws. PatternLine n ws) (pattern_words ts) (words_spelt ts) (λ ws e t v r. also refl (also refl e))) tt
+pattern_spelt _ = tt
+
 -- a verb with a name
 name_spelt : (word : List ℕ) (f : List ℕ → Statement) → ((n : List ℕ) → words_of (f n) ≡ word ∷ n ∷ []) → (ts : List Token) → IfSome (name_line f ts) (IsSpelt word ts)
 name_spelt word f h (NameToken n ∷ []) = λ t v r. h n
@@ -116,6 +144,7 @@ part_spelt LayersVerb ts = layers_spelt ts
 part_spelt ScreenVerb ts = screen_spelt ts
 part_spelt GlyphVerb ts = glyph_spelt ts
 part_spelt BitmapVerb ts = bitmap_spelt ts
+part_spelt PatternVerb ts = pattern_spelt ts
 part_spelt TaskVerb ts = name_spelt (codes "task") (λ n. TaskLine n) (λ n. refl) ts
 part_spelt EndVerb ts = bare_spelt (codes "end") EndLine refl ts
 part_spelt OrderVerb ts = bare_spelt (codes "order") OrderLine refl ts

@@ -6,9 +6,10 @@ use Rattle.lw_calls.specs.declared.call.Call.{Call}
 use Rattle.lw_calls.specs.declared.group.Hold.TheVariants.{Slot, All as AllLayers}
 use Rattle.lw_calls.specs.declared.group.Group.{Group}
 use Rattle.lw_grammar.specs.declared.verb.BareVerb.TheVariants.{Refresh as RefreshVerb}
-use Rattle.lw_grammar.specs.Statements.{Act, BareAct, NumberAct, PairAct, TextAct, PutAct, EndRefreshAct, Statement, LayersLine, ScreenLine, GlyphLine, BitmapLine, RowLine, TaskLine, EndLine, OrderLine, NumbersLine, ReportLine, CallLine, LockLine, UnlockLine, HoldLine, ReleaseLine}
+use Rattle.lw_grammar.specs.Statements.{Act, BareAct, NumberAct, PairAct, TextAct, PutAct, EndRefreshAct, Statement, LayersLine, ScreenLine, GlyphLine, BitmapLine, RowLine, PatternLine, TaskLine, EndLine, OrderLine, NumbersLine, ReportLine, CallLine, LockLine, UnlockLine, HoldLine, ReleaseLine}
 use Rattle.lw_grammar.specs.Told.{Section, ScreenIsDue, AssetsAreDue, CallsAreDue, TasksAreDue, NumbersAreDue, NothingIsDue, OpenGroup, Locked, Updating, Held, and_names, place_among, onto_last, call_below, group_from, told, plan_of}
-use Rattle.lw_grammar.specs.Script.{Setting, is_screen_due, are_assets_due, are_calls_due, are_tasks_due, are_numbers_due, lacks_name, is_beginning, is_ending, is_lock_on, is_hold, AreGoodLines}
+use Rattle.lw_grammar.specs.Script.{Setting, is_screen_due, are_assets_due, are_calls_due, are_tasks_due, are_numbers_due, lacks_name, is_beginning, is_ending, is_lock_on, is_hold}
+use Rattle.lw_grammar.specs.GoodLines.{AreGoodLines}
 use Rattle.lw_canonical.specs.Canonical.{line_of_call, are_updating, is_update, opening_lines, closing_lines}
 use Rattle.lw_canonical.proofs.Rearranged.{is_of_tasks}
 use Rattle.lw_grammar.proofs.ScriptNames.{any_before, place_before, any_kept, place_kept, AreNamed, all_named}
@@ -364,6 +365,9 @@ module _ (names bitmaps : List (List ℕ)) where
   tasks_told s (RowLine bytes ∷ above) g found stored =
       let off = no_calls_in_assets (told above).section (rows_in_assets s above g.1 (here s above (RowLine bytes) g).0) in
       closed_told (are_calls_due (told above).section) (RowLine bytes ∷ above) off (told_closed (are_calls_due (told above).section) above off (tasks_told s above g.1 found stored))
+  tasks_told s (PatternLine name words ∷ above) g found stored =
+      let off = no_calls_in_assets (told above).section (here s above (PatternLine name words) g).1 in
+      closed_told (are_calls_due (told above).section) (PatternLine name words ∷ above) off (told_closed (are_calls_due (told above).section) above off (tasks_told s above g.1 found stored))
   tasks_told s (TaskLine name ∷ above) g found stored =
       let off = no_calls_at_task (told above).section (here s above (TaskLine name) g).1 in
       task_told s above name g.1 off (told_closed (are_calls_due (told above).section) above off (tasks_told s above g.1 found stored))

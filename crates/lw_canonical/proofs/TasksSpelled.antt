@@ -1,16 +1,17 @@
 -- The lines of a script's tasks, over any base of it, are the tasks of a script alone.
-use Rattle.std.proofs.Common.{◌≡◌, ℕ, ◌+◌, ◌==◌, Bool, true, false, ◌||◌, cond, List, [], ◌∷◌, ◌++◌, map, filter, reverse, Ok, refl, sym, ap, subst, ◌∙◌, arith}
+use Rattle.std.proofs.Common.{◌≡◌, ℕ, ◌+◌, ◌==◌, Bool, true, false, ◌||◌, cond, List, [], ◌∷◌, ◌++◌, map, filter, reverse, refl, sym, ap, subst, ◌∙◌, arith}
 use Rattle.std.specs.List.{list_all, flat_map, range_with_len}
 use Rattle.lw_planes.proofs.GridLaws.{map_range_same}
 use Rattle.lw_grammar.specs.declared.form.Form.TheVariants.{Plain}
-use Rattle.lw_grammar.specs.Statements.{Statement, LayersLine, ScreenLine, GlyphLine, BitmapLine, RowLine, TaskLine, EndLine, OrderLine, NumbersLine, ReportLine, CallLine, LockLine, UnlockLine, HoldLine, ReleaseLine}
+use Rattle.lw_grammar.specs.Statements.{Statement, LayersLine, ScreenLine, GlyphLine, BitmapLine, RowLine, PatternLine, TaskLine, EndLine, OrderLine, NumbersLine, ReportLine, CallLine, LockLine, UnlockLine, HoldLine, ReleaseLine}
 use Rattle.lw_grammar.specs.Told.{Section, ScreenIsDue, AssetsAreDue, CallsAreDue, TasksAreDue, NumbersAreDue, NothingIsDue, told, plan_of}
-use Rattle.lw_grammar.specs.Script.{Setting, are_assets_due, are_calls_due, are_tasks_due, is_nothing_due, line_read, may_end, IsGoodLine, AreGoodLines}
+use Rattle.lw_grammar.specs.Script.{Setting, are_assets_due, are_calls_due, are_tasks_due, is_nothing_due, may_end}
+use Rattle.lw_grammar.specs.GoodLines.{AreGoodLines}
 use Rattle.lw_canonical.specs.Spelling.{spelled}
 use Rattle.lw_canonical.specs.Canonical.{lines_of_glyph}
 use Rattle.lw_grammar.proofs.ScriptOutcome.{rows_in_assets}
 use Rattle.lw_grammar.proofs.ScriptSizes.{here, tests, has_begun, has_screen, in_assets, in_assets_or_tasks, version_first, MayEnd, whole_ends}
-use Rattle.lw_canonical.proofs.Rearranged.{is_of_tasks, is_of_bitmaps, glyphs_in_order, screen_line_of, screen_of, base_of, alone, AreSpelled, HasOneSpelling, IsBaseOf}
+use Rattle.lw_canonical.proofs.Rearranged.{is_of_tasks, is_of_bitmaps, glyphs_in_order, screen_line_of, screen_of, base_of, alone, AreSpelled, IsWritten, AreWritten, IsBaseOf}
 use Rattle.lw_canonical.proofs.ReadsAgain.{isnt_passed}
 use Rattle.lw_canonical.proofs.NotionsAlike.{bare, section_alone, AreAlike, base_below, calls_screen, numbers_screen, order_screen, report_screen, alike}
 use Rattle.lw_canonical.proofs.TaskLineAlone.{task_not_skipped, is_inner, inner, read_alone}
@@ -19,15 +20,12 @@ use Rattle.std.proofs.lemmas.List.Folds.{list_all-append}
 use Rattle.std.proofs.lemmas.Grind.{reverse_onto}
 
 -- a good line of tasks is spelled over what stands below it
-one_more : HasOneSpelling → (s : Setting) (above new : List Statement) (f : Statement) → AreGoodLines s (f ∷ above) → is_of_tasks f ≡ true → ((told above).rows_due == 0) ≡ true → is_inner (told above).section ≡ true → AreAlike above new → AreSpelled (alone s) new → AreSpelled (alone s) (f ∷ new)
-one_more one s above new f g o e c a spelled_below =
-    let good : IsGoodLine s above f = g.0 in
-    let same : spelled f ≡ good.line = one s above good.line f good.read in
-    let read : line_read s (told above) (spelled f) ≡ Ok f = ap (line_read s (told above)) same ∙ good.read in
+one_more : (s : Setting) (above new : List Statement) (f : Statement) → AreGoodLines s (f ∷ above) → IsWritten s above f → is_of_tasks f ≡ true → ((told above).rows_due == 0) ≡ true → is_inner (told above).section ≡ true → AreAlike above new → AreSpelled (alone s) new → AreSpelled (alone s) (f ∷ new)
+one_more s above new f g written o e c a spelled_below =
     let i = inner (told above).section c in
     let section : (told new).section ≡ (told above).section = a.section ∙ i.same in
     let here_too : is_nothing_due (told new).section ≡ false = ap is_nothing_due section ∙ i.nothing in
-    (read_alone s above new f (spelled f) o e c a (tests s above f g) read, isnt_passed new (spelled f) (task_not_skipped f o) here_too, spelled_below)
+    (read_alone s above new f (spelled f) o e c a (tests s above f g) written, isnt_passed new (spelled f) (task_not_skipped f o) here_too, spelled_below)
 
 -- where a line of a task stands, calls are due
 calls_inner : (c : Section) → are_calls_due c ≡ true → is_inner c ≡ true
@@ -53,61 +51,63 @@ assets_over s above base g c k =
     subst (λ (fs : List Statement). AreSpelled (alone s) (fs ++ base)) (sym (bare s above g (ap has_begun c)).of_tasks) k
 
 -- The lines of tasks are spelled over a spelled base.
-tasks_over : HasOneSpelling → (s : Setting) (above base : List Statement) → AreGoodLines s above → has_screen (told above).section ≡ true → IsBaseOf above base → AreSpelled (alone s) base → AreSpelled (alone s) (filter is_of_tasks above ++ base)
-tasks_over one s [] base g e b k = absurd (false≢true e)
-tasks_over one s (LayersLine ∷ above) base g e b k = absurd (true≢false (sym e ∙ ap has_screen (version_first s above g)))
-tasks_over one s (ScreenLine w h d ∷ above) base g e b k = assets_over s (ScreenLine w h d ∷ above) base g refl k
-tasks_over one s (GlyphLine code rows ∷ above) base g e b k =
+tasks_over : (s : Setting) (above base : List Statement) → AreGoodLines s above → AreWritten s above → has_screen (told above).section ≡ true → IsBaseOf above base → AreSpelled (alone s) base → AreSpelled (alone s) (filter is_of_tasks above ++ base)
+tasks_over s [] base g written e b k = absurd (false≢true e)
+tasks_over s (LayersLine ∷ above) base g written e b k = absurd (true≢false (sym e ∙ ap has_screen (version_first s above g)))
+tasks_over s (ScreenLine w h d ∷ above) base g written e b k = assets_over s (ScreenLine w h d ∷ above) base g refl k
+tasks_over s (GlyphLine code rows ∷ above) base g written e b k =
     assets_over s (GlyphLine code rows ∷ above) base g (in_assets (told above).section (here s above (GlyphLine code rows) g).1) k
-tasks_over one s (BitmapLine name w h d ∷ above) base g e b k =
+tasks_over s (BitmapLine name w h d ∷ above) base g written e b k =
     assets_over s (BitmapLine name w h d ∷ above) base g (in_assets (told above).section (here s above (BitmapLine name w h d) g).1) k
-tasks_over one s (RowLine bytes ∷ above) base g e b k =
+tasks_over s (RowLine bytes ∷ above) base g written e b k =
     assets_over s (RowLine bytes ∷ above) base g (in_assets (told above).section (rows_in_assets s above g.1 (here s above (RowLine bytes) g).0)) k
-tasks_over one s (TaskLine name ∷ above) base g e b k =
+tasks_over s (PatternLine name words ∷ above) base g written e b k =
+    assets_over s (PatternLine name words ∷ above) base g (in_assets (told above).section (here s above (PatternLine name words) g).1) k
+tasks_over s (TaskLine name ∷ above) base g written e b k =
     let h = here s above (TaskLine name) g in
     let screen = in_assets_or_tasks (told above).section h.1 in
     let below = base_below (TaskLine name) above base refl b in
-    one_more one s above _ (TaskLine name) g refl h.0 (task_inner (told above).section h.1) (alike s above base g.1 screen below) (tasks_over one s above base g.1 screen below k)
-tasks_over one s (EndLine ∷ above) base g e b k =
+    one_more s above _ (TaskLine name) g written.0 refl h.0 (task_inner (told above).section h.1) (alike s above base g.1 screen below) (tasks_over s above base g.1 written.1 screen below k)
+tasks_over s (EndLine ∷ above) base g written e b k =
     let h = here s above EndLine g in
     let screen = calls_screen (told above).section h.1 in
     let below = base_below EndLine above base refl b in
-    one_more one s above _ EndLine g refl h.0 (calls_inner (told above).section h.1) (alike s above base g.1 screen below) (tasks_over one s above base g.1 screen below k)
-tasks_over one s (OrderLine ∷ above) base g e b k =
-    tasks_over one s above base g.1 (order_screen s above g) (base_below OrderLine above base refl b) k
-tasks_over one s (NumbersLine zs ∷ above) base g e b k =
-    tasks_over one s above base g.1 (numbers_screen (told above).section (here s above (NumbersLine zs) g).1) (base_below (NumbersLine zs) above base refl b) k
-tasks_over one s (ReportLine ∷ above) base g e b k =
-    tasks_over one s above base g.1 (report_screen s above g) (base_below ReportLine above base refl b) k
-tasks_over one s (CallLine layers act ∷ above) base g e b k =
+    one_more s above _ EndLine g written.0 refl h.0 (calls_inner (told above).section h.1) (alike s above base g.1 screen below) (tasks_over s above base g.1 written.1 screen below k)
+tasks_over s (OrderLine ∷ above) base g written e b k =
+    tasks_over s above base g.1 written.1 (order_screen s above g) (base_below OrderLine above base refl b) k
+tasks_over s (NumbersLine zs ∷ above) base g written e b k =
+    tasks_over s above base g.1 written.1 (numbers_screen (told above).section (here s above (NumbersLine zs) g).1) (base_below (NumbersLine zs) above base refl b) k
+tasks_over s (ReportLine ∷ above) base g written e b k =
+    tasks_over s above base g.1 written.1 (report_screen s above g) (base_below ReportLine above base refl b) k
+tasks_over s (CallLine layers act ∷ above) base g written e b k =
     let h = here s above (CallLine layers act) g in
     let screen = calls_screen (told above).section h.1 in
     let below = base_below (CallLine layers act) above base refl b in
-    one_more one s above _ (CallLine layers act) g refl h.0 (calls_inner (told above).section h.1) (alike s above base g.1 screen below) (tasks_over one s above base g.1 screen below k)
-tasks_over one s (LockLine name ∷ above) base g e b k =
+    one_more s above _ (CallLine layers act) g written.0 refl h.0 (calls_inner (told above).section h.1) (alike s above base g.1 screen below) (tasks_over s above base g.1 written.1 screen below k)
+tasks_over s (LockLine name ∷ above) base g written e b k =
     let h = here s above (LockLine name) g in
     let screen = calls_screen (told above).section h.1 in
     let below = base_below (LockLine name) above base refl b in
-    one_more one s above _ (LockLine name) g refl h.0 (calls_inner (told above).section h.1) (alike s above base g.1 screen below) (tasks_over one s above base g.1 screen below k)
-tasks_over one s (UnlockLine name ∷ above) base g e b k =
+    one_more s above _ (LockLine name) g written.0 refl h.0 (calls_inner (told above).section h.1) (alike s above base g.1 screen below) (tasks_over s above base g.1 written.1 screen below k)
+tasks_over s (UnlockLine name ∷ above) base g written e b k =
     let h = here s above (UnlockLine name) g in
     let screen = calls_screen (told above).section h.1 in
     let below = base_below (UnlockLine name) above base refl b in
-    one_more one s above _ (UnlockLine name) g refl h.0 (calls_inner (told above).section h.1) (alike s above base g.1 screen below) (tasks_over one s above base g.1 screen below k)
-tasks_over one s (HoldLine ∷ above) base g e b k =
+    one_more s above _ (UnlockLine name) g written.0 refl h.0 (calls_inner (told above).section h.1) (alike s above base g.1 screen below) (tasks_over s above base g.1 written.1 screen below k)
+tasks_over s (HoldLine ∷ above) base g written e b k =
     let h = here s above HoldLine g in
     let screen = calls_screen (told above).section h.1 in
     let below = base_below HoldLine above base refl b in
-    one_more one s above _ HoldLine g refl h.0 (calls_inner (told above).section h.1) (alike s above base g.1 screen below) (tasks_over one s above base g.1 screen below k)
-tasks_over one s (ReleaseLine ∷ above) base g e b k =
+    one_more s above _ HoldLine g written.0 refl h.0 (calls_inner (told above).section h.1) (alike s above base g.1 screen below) (tasks_over s above base g.1 written.1 screen below k)
+tasks_over s (ReleaseLine ∷ above) base g written e b k =
     let h = here s above ReleaseLine g in
     let screen = calls_screen (told above).section h.1 in
     let below = base_below ReleaseLine above base refl b in
-    one_more one s above _ ReleaseLine g refl h.0 (calls_inner (told above).section h.1) (alike s above base g.1 screen below) (tasks_over one s above base g.1 screen below k)
+    one_more s above _ ReleaseLine g written.0 refl h.0 (calls_inner (told above).section h.1) (alike s above base g.1 screen below) (tasks_over s above base g.1 written.1 screen below k)
 
 -- The lines of a whole script's tasks are spelled over each spelled base of it.
-pub tasks_spelled : HasOneSpelling → (s : Setting) (above base : List Statement) → AreGoodLines s above → may_end s.form (told above).section ≡ true → IsBaseOf above base → AreSpelled (alone s) base → AreSpelled (alone s) (filter is_of_tasks above ++ base)
-tasks_spelled one s above base g whole b k = tasks_over one s above base g (whole_ends s.form above whole).screen b k
+pub tasks_spelled : (s : Setting) (above base : List Statement) → AreGoodLines s above → AreWritten s above → may_end s.form (told above).section ≡ true → IsBaseOf above base → AreSpelled (alone s) base → AreSpelled (alone s) (filter is_of_tasks above ++ base)
+tasks_spelled s above base g written whole b k = tasks_over s above base g written (whole_ends s.form above whole).screen b k
 
 -- the glyphs of lines that tell the same
 same_glyphs : (above new : List Statement) → AreAlike above new → map (λ i. (told new).glyphs (32 + i)) (range_with_len 0 95) ≡ map (λ i. (told above).glyphs (32 + i)) (range_with_len 0 95)

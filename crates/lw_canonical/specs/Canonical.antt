@@ -1,5 +1,6 @@
 -- The canonical text of a plan: a script without skipped lines that spells the plan. After the line of version 2, in a plan of
 -- it, and the screen come the glyphs with some bit set in the order of their codes, the bitmaps with their rows, and the tasks.
+-- It has no patterns and no areas: an area's fills are calls like others.
 use Rattle.std.specs.Prelude.{ℕ, ◌+◌, ◌==◌, Bool, true, false, if◌then◌else◌, List, [], ◌∷◌, ◌++◌, map, drop, length, ℤ, pos, ◌+ℤ◌, ◌-ℤ◌, option_map, slice_index_or}
 use Rattle.std.specs.List.{list_all, flat_map, range_with_len}
 use Rattle.lw_planes.specs.Bitmap.{Bitmap, plane_row}

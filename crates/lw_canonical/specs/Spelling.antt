@@ -9,7 +9,7 @@ use Rattle.lw_calls.specs.declared.make.Place.{Place}
 use Rattle.lw_calls.specs.declared.make.Place.TheVariants.{Front, Behind}
 use Rattle.lw_grammar.specs.Tokens.{space, quote}
 use Rattle.lw_grammar.specs.Verbs.{bare_word, number_word, pair_word, text_verb_word, rect_word, region_word}
-use Rattle.lw_grammar.specs.Statements.{NewLayer, Act, BareAct, NumberAct, PairAct, TextAct, RegRectAct, RegPairAct, RegClearAct, CreateAct, OpenAct, InFrontAct, BoxAct, WhichAct, FillAct, ScrollRasterAct, PutAct, BlitAct, EndRefreshAct, Statement, LayersLine, ScreenLine, GlyphLine, BitmapLine, RowLine, TaskLine, EndLine, OrderLine, NumbersLine, ReportLine, CallLine, LockLine, UnlockLine, HoldLine, ReleaseLine}
+use Rattle.lw_grammar.specs.Statements.{NewLayer, Act, BareAct, NumberAct, PairAct, TextAct, RegRectAct, RegPairAct, RegClearAct, CreateAct, OpenAct, InFrontAct, BoxAct, WhichAct, FillAct, ScrollRasterAct, PutAct, BlitAct, EndRefreshAct, Statement, LayersLine, ScreenLine, GlyphLine, BitmapLine, RowLine, PatternLine, TaskLine, EndLine, OrderLine, NumbersLine, ReportLine, CallLine, LockLine, UnlockLine, HoldLine, ReleaseLine}
 use Rattle.lw_calls.specs.Written.{hex_byte}
 
 -- words with single spaces between them
@@ -111,6 +111,10 @@ call_words layers (BlitAct b) =
     signed_decimal b.x ∷ signed_decimal b.y ∷ signed_decimal b.w ∷ signed_decimal b.h ∷ hex_byte b.minterm ∷ []
 call_words layers (EndRefreshAct full) = codes "endrefresh" ∷ layers ++ (if full then codes "full" else codes "part") ∷ []
 
+-- a word of a pattern in four digits
+abbrev pub pattern_digits : ℕ → List ℕ
+pattern_digits word = hex_word (word / 256 ∷ word % 256 ∷ [])
+
 -- the words of a line
 abbrev pub words_of : Statement → List (List ℕ)
 words_of LayersLine = codes "layers" ∷ codes "2" ∷ []
@@ -118,6 +122,7 @@ words_of (ScreenLine w h d) = codes "screen" ∷ signed_decimal w ∷ signed_dec
 words_of (GlyphLine code rows) = codes "glyph" ∷ hex_byte code ∷ hex_word rows ∷ []
 words_of (BitmapLine name w h d) = codes "bitmap" ∷ name ∷ signed_decimal w ∷ signed_decimal h ∷ signed_decimal d ∷ []
 words_of (RowLine bytes) = hex_word bytes ∷ []
+words_of (PatternLine name words) = codes "pattern" ∷ name ∷ map pattern_digits words
 words_of (TaskLine name) = codes "task" ∷ name ∷ []
 words_of EndLine = codes "end" ∷ []
 words_of OrderLine = codes "order" ∷ []

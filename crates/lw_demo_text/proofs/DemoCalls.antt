@@ -15,12 +15,12 @@ use Rattle.lw_grammar.specs.declared.verb.PairVerb.TheVariants.{Read as ReadVerb
 use Rattle.lw_grammar.specs.declared.verb.Verb.TheVariants.{Bare, Number, Pair, Create as CreateVerb, Fill as FillVerb}
 use Rattle.lw_grammar.specs.Tokens.{NameToken, token_of}
 use Rattle.lw_grammar.specs.Verbs.{verb_of}
-use Rattle.lw_grammar.specs.Statements.{NewLayer, BareAct, NumberAct, PairAct, CreateAct, FillAct, four, statement_by, new_without_bitmap}
+use Rattle.lw_grammar.specs.Statements.{NewLayer, BareAct, NumberAct, PairAct, CreateAct, FillAct, four, line_by, new_without_bitmap}
 use Rattle.lw_grammar.specs.Told.{spelled_call}
 use Rattle.lw_canonical.specs.Spelling.{kind_word, place_word}
 use Rattle.lw_gen.specs.Demo.{layer_between}
-use Rattle.lw_demo_text.proofs.PlainWords.{is_plain}
-use Rattle.lw_demo_text.proofs.WrittenNumbers.{IsNumber, numbers_read_back}
+use Rattle.lw_canonical.proofs.PlainWords.{is_plain}
+use Rattle.lw_canonical.proofs.WrittenNumbers.{IsNumber, numbers_read_back}
 use Rattle.lw_demo_text.proofs.DemoLines.{IsReadable}
 use Rattle.std.proofs.lemmas.Bool.{and_from}
 use Rattle.std.proofs.lemmas.Int.{ints}
@@ -60,7 +60,7 @@ module _ (l : List ℕ) (plain_name : is_plain l ≡ true) (name : token_of l �
     few = omega arith;
     known = refl;
     spoken = refl;
-    made = λ i. statement_by (Bare FrontVerb) (name i ∷ []);
+    made = λ i. line_by (Bare FrontVerb) (name i ∷ []);
     belongs = refl;
     stands = refl;
     range = refl;
@@ -83,7 +83,7 @@ module _ (l : List ℕ) (plain_name : is_plain l ≡ true) (name : token_of l �
         few = omega arith;
         known = refl;
         spoken = refl;
-        made = λ i. statement_by (Number APenVerb) (name i ∷ number.token i ∷ []);
+        made = λ i. line_by (Number APenVerb) (name i ∷ number.token i ∷ []);
         belongs = refl;
         stands = refl;
         range = within_true (pos 0) (pos p) (pos 255) (omega (arith, ints)) (omega (arith, ints, small));
@@ -97,8 +97,8 @@ module _ (l : List ℕ) (plain_name : is_plain l ≡ true) (name : token_of l �
   pub read_readable : (x y : ℕ) → x < 1000 → y < 1000 → IsReadable l (PairAct ReadVerb (pos x) (pos y))
   unfolding verb_of
   read_readable x y low small =
-      let a = numbers_read_back x low in
-      let b = numbers_read_back y small in
+      let a = numbers_read_back x (omega (arith, low)) in
+      let b = numbers_read_back y (omega (arith, small)) in
       record {
         verb = Pair ReadVerb;
         ws = l ∷ decimal x ∷ decimal y ∷ [];
@@ -107,7 +107,7 @@ module _ (l : List ℕ) (plain_name : is_plain l ≡ true) (name : token_of l �
         few = omega arith;
         known = refl;
         spoken = refl;
-        made = λ i. statement_by (Pair ReadVerb) (name i ∷ a.token i ∷ b.token i ∷ []);
+        made = λ i. line_by (Pair ReadVerb) (name i ∷ a.token i ∷ b.token i ∷ []);
         belongs = refl;
         stands = refl;
         range = and_from (is_coordinate (pos x)) (is_coordinate (pos y)) (coordinate x low) (coordinate y small);
@@ -121,17 +121,17 @@ module _ (l : List ℕ) (plain_name : is_plain l ≡ true) (name : token_of l �
     fits : rect_fits (four (pos x0) (pos y0) (pos x1) (pos y1)) ≡ true
     fits = and_from (axis_fits (pos x0) (pos x1)) (axis_fits (pos y0) (pos y1)) (axis x0 x1 wide right) (axis y0 y1 high lower)
 
-    a : IsNumber x0
+    a : IsNumber (pos x0)
     a = numbers_read_back x0 (omega (arith, wide, right))
 
-    b : IsNumber y0
+    b : IsNumber (pos y0)
     b = numbers_read_back y0 (omega (arith, high, lower))
 
-    c : IsNumber x1
-    c = numbers_read_back x1 right
+    c : IsNumber (pos x1)
+    c = numbers_read_back x1 (omega (arith, right))
 
-    d : IsNumber y1
-    d = numbers_read_back y1 lower
+    d : IsNumber (pos y1)
+    d = numbers_read_back y1 (omega (arith, lower))
 
     words_plain : list_all is_plain (l ∷ decimal x0 ∷ decimal y0 ∷ decimal x1 ∷ decimal y1 ∷ []) ≡ true
     words_plain = and_from (is_plain l) _ plain_name (and_from (is_plain (decimal x0)) _ a.plain (and_from (is_plain (decimal y0)) _ b.plain (and_from (is_plain (decimal x1)) _ c.plain (and_from (is_plain (decimal y1)) true d.plain refl))))
@@ -147,7 +147,7 @@ module _ (l : List ℕ) (plain_name : is_plain l ≡ true) (name : token_of l �
       few = omega arith;
       known = refl;
       spoken = refl;
-      made = λ i. statement_by FillVerb (name i ∷ a.token i ∷ b.token i ∷ c.token i ∷ d.token i ∷ []);
+      made = λ i. line_by FillVerb (name i ∷ a.token i ∷ b.token i ∷ c.token i ∷ d.token i ∷ []);
       belongs = refl;
       stands = refl;
       range = fits;
@@ -168,7 +168,7 @@ module _ (l : List ℕ) (plain_name : is_plain l ≡ true) (name : token_of l �
       few = omega arith;
       known = refl;
       spoken = refl;
-      made = λ i. statement_by CreateVerb (name i ∷ NameToken (kind_word Simple) ∷ NameToken (place_word Front) ∷ a.token i ∷ b.token i ∷ c.token i ∷ d.token i ∷ []);
+      made = λ i. line_by CreateVerb (name i ∷ NameToken (kind_word Simple) ∷ NameToken (place_word Front) ∷ a.token i ∷ b.token i ∷ c.token i ∷ d.token i ∷ []);
       belongs = refl;
       stands = refl;
       range = and_from (rect_fits (four (pos x0) (pos y0) (pos x1) (pos y1))) true fits refl;
@@ -188,7 +188,7 @@ module _ (l : List ℕ) (plain_name : is_plain l ≡ true) (name : token_of l �
       few = omega arith;
       known = refl;
       spoken = refl;
-      made = λ i. statement_by CreateVerb (name i ∷ NameToken (kind_word Smart) ∷ NameToken (place_word Front) ∷ a.token i ∷ b.token i ∷ c.token i ∷ d.token i ∷ []);
+      made = λ i. line_by CreateVerb (name i ∷ NameToken (kind_word Smart) ∷ NameToken (place_word Front) ∷ a.token i ∷ b.token i ∷ c.token i ∷ d.token i ∷ []);
       belongs = refl;
       stands = refl;
       range = and_from (rect_fits (four (pos x0) (pos y0) (pos x1) (pos y1))) true fits refl;

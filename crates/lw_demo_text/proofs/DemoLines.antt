@@ -1,8 +1,8 @@
 -- The lines of a demo's script are good where they stand.
-use Rattle.std.proofs.Common.{◌≡◌, ℕ, ◌+◌, ◌<◌, ◌≤◌, ◌==◌, true, false, not, ◌&&◌, nat_le, cond, List, [], ◌∷◌, length, map, Some, None, Ok, ok_or, refl, ap, ◌∙◌, arith}
+use Rattle.std.proofs.Common.{◌≡◌, ℕ, ◌+◌, ◌<◌, ◌≤◌, true, false, not, ◌&&◌, nat_le, List, [], ◌∷◌, length, map, Some, None, Ok, refl, ap, ◌∙◌, arith}
 use Rattle.std.specs.List.{list_all}
 use Rattle.lw_grammar.specs.declared.form.Form.TheVariants.{Plain}
-use Rattle.lw_grammar.specs.declared.reason.Reason.TheVariants.{UnknownWord, Misplaced, Form as FormReason, Range, NoName, DoubleName, Group as GroupReason, TooMany, NoHook, HookUsed, Padding}
+use Rattle.lw_grammar.specs.declared.reason.Reason.TheVariants.{Range, NoName, DoubleName, Group as GroupReason, TooMany, NoHook, HookUsed, Padding}
 use Rattle.lw_calls.specs.declared.call.Call.{Call}
 use Rattle.lw_calls.specs.declared.group.Group.{Group}
 use Rattle.lw_calls.specs.Limits.{limits_of, task_limit}
@@ -10,11 +10,12 @@ use Rattle.lw_grammar.specs.declared.verb.Verb.{Verb}
 use Rattle.lw_grammar.specs.Demands.{◌>>=◌, demand}
 use Rattle.lw_grammar.specs.Tokens.{token_of}
 use Rattle.lw_grammar.specs.Verbs.{verb_word, verb_of}
-use Rattle.lw_grammar.specs.Statements.{Act, Statement, CallLine, row_line, numbers_line, statement_by, is_act_in_range, is_line_in_range}
+use Rattle.lw_grammar.specs.Statements.{Act, Statement, CallLine, StatementLine, line_by, is_act_in_range, is_line_in_range}
 use Rattle.lw_grammar.specs.Told.{Section, CallsAreDue, Told, nothing_told, and_name, place_among, onto_last, spelled_call, hook_on, told_with}
-use Rattle.lw_grammar.specs.Script.{is_skipped, are_numbers_due, is_known_in, belongs_in, lacks_name, gives_again, group_has_calls, group_allows, fits_group, are_few, is_no_hook, is_used, has_padding, words_read, verb_read, statement_read, statement_tested, statement_of, line_read}
-use Rattle.lw_canonical.specs.Spelling.{joined, words_of, spelled}
-use Rattle.lw_demo_text.proofs.PlainWords.{is_plain, words_read_back}
+use Rattle.lw_grammar.specs.Script.{is_skipped, is_known_in, belongs_in, lacks_name, gives_again, group_has_calls, group_allows, fits_group, are_few, is_no_hook, is_used, has_padding, statement_tested}
+use Rattle.lw_canonical.specs.Spelling.{words_of, spelled}
+use Rattle.lw_canonical.proofs.PlainWords.{is_plain}
+use Rattle.lw_canonical.proofs.ReadsForward.{line_reads}
 use Rattle.lw_demo_text.proofs.DemoNames.{IsNamed}
 use Rattle.lw_demo_text.proofs.ReadOn.{alone, IsReached, line_more}
 use Rattle.std.proofs.lemmas.Bool.{and_from, le-leb}
@@ -24,20 +25,6 @@ use Rattle.std.proofs.lemmas.Bool.{and_from, le-leb}
 abbrev pub in_demo : Section → List (List ℕ) → List (List ℕ) → ℕ → List (List Call) → List (List Group) → Told
 in_demo section tasks names so_far calls groups =
     record nothing_told { version = 1; section = section; width = 640; height = 256; depth = 2; tasks = tasks; names = names; so_far = so_far; calls = calls; groups = groups }
-
--- A line that begins with a verb and whose words make this statement, which passes its tests, reads as it.
-pub line_reads : (t : Told) (f : Statement) (v : Verb) (ws : List (List ℕ)) → words_of f ≡ verb_word v ∷ ws → list_all is_plain (verb_word v ∷ ws) ≡ true → length ws ≤ 8 → verb_of (verb_word v) ≡ Some v → is_known_in t.version v ≡ true → statement_by v (map token_of ws) ≡ Some f → (t.rows_due == 0) ≡ true → are_numbers_due t.section ≡ false → belongs_in Plain t.version t.section v ≡ true → statement_tested alone t f ≡ Ok tt → line_read alone t (spelled f) ≡ Ok f
-line_reads t f v ws words plain few verb known by rows numbers stands tested =
-    let all : List (List ℕ) = verb_word v ∷ ws in
-    let split : words_read (spelled f) ≡ Ok all = ap (λ us. words_read (joined us)) words ∙ words_read_back (verb_word v) ws plain few in
-    let first : statement_read Plain t.version t.section t.rows_due t.row_width all ≡ verb_read Plain t.version t.section all =
-    λ i. cond (not (rows i)) (ok_or (row_line t.row_width (map token_of all)) FormReason) (cond (numbers i) (ok_or (numbers_line (map token_of all)) FormReason) (verb_read Plain t.version t.section all)) in
-    let found : verb_read Plain t.version t.section all ≡ (demand (is_known_in t.version v) UnknownWord >>= (λ _. demand (belongs_in Plain t.version t.section v) Misplaced >>= (λ _. ok_or (statement_by v (map token_of ws)) FormReason))) =
-    ap (λ o. ok_or o UnknownWord >>= (λ u. demand (is_known_in t.version u) UnknownWord >>= (λ _. demand (belongs_in Plain t.version t.section u) Misplaced >>= (λ _. ok_or (statement_by u (map token_of ws)) FormReason)))) verb in
-    let made : (demand (is_known_in t.version v) UnknownWord >>= (λ _. demand (belongs_in Plain t.version t.section v) Misplaced >>= (λ _. ok_or (statement_by v (map token_of ws)) FormReason))) ≡ Ok f =
-    λ i. demand (known i) UnknownWord >>= (λ _. demand (stands i) Misplaced >>= (λ _. ok_or (by i) FormReason)) in
-    ap (λ r. r >>= statement_of alone t) split
-    ∙ (ap (λ r. r >>= (λ g. statement_tested alone t g >>= (λ _. Ok g))) (first ∙ (found ∙ made)) ∙ ap (λ r. r >>= (λ _. Ok f)) tested)
 
 -- A statement in range that gives nothing again, where no group is open, none is padded and no hook is named, passes its tests.
 pub tests_pass : (t : Told) (f : Statement) → is_line_in_range t.version f ≡ true → lacks_name t.bitmap_names f ≡ false → gives_again t f ≡ false → fits_group t.group (group_has_calls t) f ≡ true → are_few (limits_of t.version) (told_with f t) ≡ true → hook_on f ≡ None → has_padding t.row_width f ≡ false → statement_tested alone t f ≡ Ok tt
@@ -65,7 +52,7 @@ pub record IsReadable (l : List ℕ) (act : Act) : Type 0 where
   pub few : length ws ≤ 8
   pub known : verb_of (verb_word verb) ≡ Some verb
   pub spoken : is_known_in 1 verb ≡ true
-  pub made : statement_by verb (map token_of ws) ≡ Some (CallLine (l ∷ []) act)
+  pub made : line_by verb (map token_of ws) ≡ Some (StatementLine (CallLine (l ∷ []) act))
   pub belongs : belongs_in Plain 1 CallsAreDue verb ≡ true
   pub stands : is_skipped (spelled (CallLine (l ∷ []) act)) ≡ false
   pub range : is_act_in_range act ≡ true
@@ -85,4 +72,4 @@ call_more tasks old new l slot n calls groups act c few more named r is reached 
     let tells : told_with f t ≡ u = r.tells tasks old n calls groups ∙ (λ i. in_demo CallsAreDue tasks (named.becomes i) (n + 1) (onto_last (call i) calls) groups) in
     let few_then : are_few (limits_of 1) (told_with f t) ≡ true = ap (are_few (limits_of 1)) tells ∙ few_in_demo CallsAreDue tasks new (n + 1) (onto_last c calls) groups few named.few (omega (arith, more)) in
     let tested = tests_pass t f r.range r.bitmaps refl r.group few_then r.hook refl in
-    line_more t u f reached (line_reads t f r.verb r.ws r.words r.plain r.few r.known r.spoken r.made refl refl r.belongs tested) r.stands refl tells
+    line_more t u f reached (line_reads alone t f r.verb r.ws r.words r.plain r.few r.known r.spoken r.made refl refl r.belongs tested) r.stands refl tells

@@ -6,7 +6,7 @@ use Rattle.lw_calls.proofs.OrdersComplete.{all_below}
 use Rattle.lw_grammar.specs.Tokens.{NameToken, is_a_text, is_a_name, token_of}
 use Rattle.lw_grammar.specs.Told.{and_name, place_among}
 use Rattle.lw_gen.specs.Demo.{task_name, layer_names}
-use Rattle.lw_demo_text.proofs.PlainWords.{is_plain, name_token}
+use Rattle.lw_canonical.proofs.PlainWords.{is_plain, name_token}
 use Rattle.std.proofs.lemmas.Bool.{leb-true, eqb-true, and_parts, not-true}
 
 -- the name of layer 0, 1 or 2 of a task

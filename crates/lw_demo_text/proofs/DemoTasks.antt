@@ -14,7 +14,7 @@ use Rattle.lw_grammar.specs.Verbs.{verb_of}
 use Rattle.lw_grammar.specs.declared.verb.BareVerb.TheVariants.{Front as FrontVerb}
 use Rattle.lw_grammar.specs.declared.verb.NumberVerb.TheVariants.{APen as APenVerb}
 use Rattle.lw_grammar.specs.declared.verb.PairVerb.TheVariants.{Read as ReadVerb}
-use Rattle.lw_grammar.specs.Statements.{Act, BareAct, NumberAct, PairAct, CreateAct, FillAct, ScreenLine, TaskLine, EndLine, four, statement_by}
+use Rattle.lw_grammar.specs.Statements.{Act, BareAct, NumberAct, PairAct, CreateAct, FillAct, ScreenLine, TaskLine, EndLine, four, line_by}
 use Rattle.lw_grammar.specs.Told.{Section, AssetsAreDue, CallsAreDue, TasksAreDue, Told, nothing_told, spelled_call, plan_of}
 use Rattle.lw_grammar.specs.Script.{are_assets_due, are_tasks_due, are_numbers_due, is_nothing_due}
 use Rattle.lw_grammar.proofs.ScriptTasks.{onto_pushed}
@@ -22,10 +22,11 @@ use Rattle.lw_gen.specs.Generator.{stirred, picked, fill_after, pen_after, read_
 use Rattle.lw_gen.specs.Demo.{task_name, layer_names, layer_between, creations, demo_calls, demo_plan}
 use Rattle.lw_gen.proofs.Plans.{picked_below, band_inside}
 use Rattle.lw_demo_text.specs.DemoText.{DemoTextsReadBack}
-use Rattle.lw_demo_text.proofs.PlainWords.{is_plain}
+use Rattle.lw_canonical.proofs.PlainWords.{is_plain}
 use Rattle.lw_demo_text.proofs.DemoNames.{layer_name, of_tasks, tasks_named, one_named, two_named, layers_named, IsNamed, new_task, new_layers, known_layer}
-use Rattle.lw_demo_text.proofs.ReadOn.{IsReached, nothing_reached, line_more, plan_reads_back}
-use Rattle.lw_demo_text.proofs.DemoLines.{in_demo, line_reads, tests_pass, few_in_demo, IsReadable, call_more}
+use Rattle.lw_demo_text.proofs.ReadOn.{alone, IsReached, nothing_reached, line_more, plan_reads_back}
+use Rattle.lw_canonical.proofs.ReadsForward.{line_reads}
+use Rattle.lw_demo_text.proofs.DemoLines.{in_demo, tests_pass, few_in_demo, IsReadable, call_more}
 use Rattle.lw_demo_text.proofs.DemoCalls.{new_between, created_between, front_readable, pen_readable, read_readable, fill_readable, simple_readable, smart_readable}
 use Rattle.std.proofs.lemmas.Bool.{and_from}
 use Rattle.std.proofs.lemmas.Nat.{le-div}
@@ -131,14 +132,14 @@ begun section k n calls groups low numbers due belongs reached =
     let f = TaskLine (task_name k) in
     let new = new_task k low in
     let few = few_in_demo CallsAreDue (tasks_named (suc k)) (layers_named k) 0 (calls ++ [] ∷ []) (groups ++ [] ∷ []) (let m = many_tasks (suc k) in omega (arith, m, low)) (let m = many_layers k in omega (arith, m, low)) (omega arith) in
-    line_more t u f reached (line_reads t f (Part TaskVerb) (task_name k ∷ []) refl (and_from (is_plain (task_name k)) true new.plain refl) (omega arith) refl refl (λ i. statement_by (Part TaskVerb) (new.name i ∷ [])) refl numbers belongs (tests_pass t f refl refl new.new refl few refl refl)) refl due refl
+    line_more t u f reached (line_reads alone t f (Part TaskVerb) (task_name k ∷ []) refl (and_from (is_plain (task_name k)) true new.plain refl) (omega arith) refl refl (λ i. line_by (Part TaskVerb) (new.name i ∷ [])) refl numbers belongs (tests_pass t f refl refl new.new refl few refl refl)) refl due refl
 
 ended : (k n : ℕ) (calls : List (List Call)) (groups : List (List Group)) → k ≤ 16 → n ≤ 4096 → IsReached (in_demo CallsAreDue (tasks_named k) (layers_named k) n calls groups) → IsReached (in_demo TasksAreDue (tasks_named k) (layers_named k) n calls groups)
 unfolding verb_of
 ended k n calls groups low long reached =
     let t = in_demo CallsAreDue (tasks_named k) (layers_named k) n calls groups in
     let few = few_in_demo TasksAreDue (tasks_named k) (layers_named k) n calls groups (let m = many_tasks k in omega (arith, m, low)) (let m = many_layers k in omega (arith, m, low)) long in
-    line_more t (in_demo TasksAreDue (tasks_named k) (layers_named k) n calls groups) EndLine reached (line_reads t EndLine (Part EndVerb) [] refl refl (omega arith) refl refl refl refl refl refl (tests_pass t EndLine refl refl refl refl few refl refl)) refl refl refl
+    line_more t (in_demo TasksAreDue (tasks_named k) (layers_named k) n calls groups) EndLine reached (line_reads alone t EndLine (Part EndVerb) [] refl refl (omega arith) refl refl refl refl refl refl (tests_pass t EndLine refl refl refl refl few refl refl)) refl refl refl
 
 -- What the lines of so many tasks of a demo tell.
 module _ (number tasks : ℕ) (few : tasks ≤ 16) where
@@ -183,7 +184,7 @@ module _ (number tasks : ℕ) (few : tasks ≤ 16) where
   unfolding digits within verb_of
   screen_read =
       let f = ScreenLine (pos 640) (pos 256) (pos 2) in
-      line_more nothing_told (told_by zero) f nothing_reached (line_reads nothing_told f (Part ScreenVerb) (signed_decimal (pos 640) ∷ signed_decimal (pos 256) ∷ signed_decimal (pos 2) ∷ []) refl refl (omega arith) refl refl refl refl refl refl (tests_pass nothing_told f refl refl refl refl refl refl refl)) refl refl refl
+      line_more nothing_told (told_by zero) f nothing_reached (line_reads alone nothing_told f (Part ScreenVerb) (signed_decimal (pos 640) ∷ signed_decimal (pos 256) ∷ signed_decimal (pos 2) ∷ []) refl refl (omega arith) refl refl refl refl refl refl (tests_pass nothing_told f refl refl refl refl refl refl refl)) refl refl refl
 
 -- what tasks have, as the plan has it
 of_all : {A : Type 0} (f : ℕ → A) (n : ℕ) → of_tasks f n ≡ map f (range_with_len 0 n)

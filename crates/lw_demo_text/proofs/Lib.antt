@@ -1,5 +1,3 @@
-mod PlainWords
-mod WrittenNumbers
 mod DemoNames
 mod ReadOn
 mod DemoLines

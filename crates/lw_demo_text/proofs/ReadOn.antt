@@ -7,9 +7,9 @@ use Rattle.lw_calls.specs.Plan.{Plan}
 use Rattle.lw_calls.specs.Written.{line_of}
 use Rattle.lw_grammar.specs.Demands.{◌>>=◌, demand}
 use Rattle.lw_grammar.specs.Lines.{lines}
-use Rattle.lw_grammar.specs.Statements.{Statement}
-use Rattle.lw_grammar.specs.Told.{Told, nothing_told, told_with, told, plan_of}
-use Rattle.lw_grammar.specs.Script.{Setting, reading_with, is_skipped, are_tasks_due, is_nothing_due, line_read, Reached, at_the_top, with_line, at_number, end_read, lines_read, input_from, SpellsInput}
+use Rattle.lw_grammar.specs.Statements.{Statement, StatementLine}
+use Rattle.lw_grammar.specs.Told.{Told, nothing_told, told_with, told, stands_for, plan_of}
+use Rattle.lw_grammar.specs.Script.{Setting, reading_with, is_skipped, are_tasks_due, is_nothing_due, line_read, Reached, at_the_top, with_line, at_number, end_read, added, lines_read, input_from, SpellsInput}
 use Rattle.lw_canonical.specs.Spelling.{spelled}
 use Rattle.lw_canonical.specs.Canonical.{canonical_text, canonical_input}
 use Rattle.lw_canonical.proofs.OneSpelling.{HasNoFeed, HaveNoFeed, no_feed, lines_of_text}
@@ -36,13 +36,13 @@ feedless_more [] f h k = (k, tt)
 feedless_more (g ∷ fs) f h k = (h.0, feedless_more fs f h.1 k)
 
 -- A further line is read.
-pub line_more : (t u : Told) (f : Statement) → IsReached t → line_read alone t (spelled f) ≡ Ok f → is_skipped (spelled f) ≡ false → is_nothing_due t.section ≡ false → told_with f t ≡ u → IsReached u
+pub line_more : (t u : Told) (f : Statement) → IsReached t → line_read alone t (spelled f) ≡ Ok (StatementLine f) → is_skipped (spelled f) ≡ false → is_nothing_due t.section ≡ false → told_with f t ≡ u → IsReached u
 line_more t u f r good stands due tells =
     let p = r.at in
-    let here : line_read alone (told p.statements) (spelled f) ≡ Ok f = ap (λ k. line_read alone k (spelled f)) r.tells ∙ good in
+    let here : line_read alone (told p.statements) (spelled f) ≡ Ok (StatementLine f) = ap (λ k. line_read alone k (spelled f)) r.tells ∙ good in
     let due_here : is_nothing_due (told p.statements).section ≡ false = ap (λ (k : Told). is_nothing_due k.section) r.tells ∙ due in
     let on : (rest : List (List ℕ)) → lines_read alone p (spelled f ∷ rest) ≡ lines_read alone (with_line p (spelled f) (f ∷ p.statements)) rest =
-    λ rest i. cond (due_here i) (end_read alone p) (at_number p.number (cond (stands i) (Ok p.statements) (here i >>= (λ statement. Ok (statement ∷ p.statements)))) >>= (λ statements. lines_read alone (with_line p (spelled f) statements) rest)) in
+    λ rest i. cond (due_here i) (end_read alone p) (at_number p.number (cond (stands i) (Ok p.statements) (here i >>= (λ l. Ok (added (stands_for (told p.statements) l) p.statements)))) >>= (λ statements. lines_read alone (with_line p (spelled f) statements) rest)) in
     record {
       statements = r.statements ++ f ∷ [];
       at = with_line p (spelled f) (f ∷ p.statements);

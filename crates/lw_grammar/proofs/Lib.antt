@@ -1,8 +1,10 @@
 pub mod ScriptStatements
-pub mod ScriptOutcome
 pub mod ScriptNames
 pub mod ScriptCalls
 pub mod ScriptGroups
 pub mod ScriptSizes
+pub mod AreaRectangles
+pub mod AreaLines
+pub mod ScriptOutcome
 pub mod ScriptTasks
 pub mod ScriptRunnable

@@ -18,7 +18,7 @@ use Rattle.lw_grammar.specs.declared.verb.TextVerb.TheVariants.{Text as TextOf}
 use Rattle.lw_grammar.specs.Statements.{NewLayer, Act, BareAct, NumberAct, PairAct, TextAct, RegRectAct, RegPairAct, RegClearAct, CreateAct, OpenAct, InFrontAct, BoxAct, WhichAct, FillAct, ScrollRasterAct, PutAct, BlitAct, EndRefreshAct, CallLine, is_hook_number, is_own_size, is_new_layer_in_range, place_and_size_fit, is_act_in_range, layers_of}
 use Rattle.lw_grammar.specs.Told.{place_among, make_of, created_make, opened_make, bare_call, pair_call, text_call, spelled_call, hook_on}
 use Rattle.lw_grammar.specs.Script.{lacks_name, is_no_hook}
-use Rattle.lw_grammar.proofs.ScriptStatements.{IsNewLayerOf, IsActMade, is_known_act}
+use Rattle.lw_grammar.specs.GoodLines.{is_known_act, IsNewLayerOf, IsActMade}
 use Rattle.lw_grammar.proofs.ScriptNames.{place_below}
 use Rattle.std.proofs.lemmas.Int.{ints}
 use Rattle.std.proofs.lemmas.Bool.{not-false, lt-ltb, le-leb, eq-eqb, and_parts, and_from}

@@ -5,42 +5,44 @@ use Rattle.lw_grammar.specs.declared.reason.Reason.{Reason}
 use Rattle.lw_grammar.specs.declared.reason.Reason.TheVariants.{Missing}
 use Rattle.lw_grammar.specs.Demands.{◌>>=◌, demand}
 use Rattle.lw_grammar.specs.Lines.{lines}
-use Rattle.lw_grammar.specs.Statements.{Statement, BitmapLine, RowLine}
-use Rattle.lw_grammar.specs.Told.{told}
-use Rattle.lw_grammar.specs.Script.{Setting, is_skipped, are_assets_due, is_nothing_due, words_read, statement_read, statement_tested, line_read, statements_with, Reached, at_the_top, with_line, at_number, may_end, end_read, lines_read, ScriptInput, input_from, outcome_of, SpellsInput, IsFirstBadIn, IsDecidedIn, IsGoodLine, AreGoodLines}
-use Rattle.lw_grammar.proofs.ScriptStatements.{IsStatementHere, statement_here}
+use Rattle.lw_grammar.specs.Statements.{Statement, BitmapLine, RowLine, Line, StatementLine, AreaLine}
+use Rattle.lw_grammar.specs.Told.{stands_for, told}
+use Rattle.lw_grammar.specs.Script.{Setting, is_skipped, are_assets_due, is_nothing_due, words_read, line_made, line_tested, line_read, added, statements_with, Reached, at_the_top, with_line, at_number, may_end, end_read, lines_read, ScriptInput, input_from, outcome_of, SpellsInput, IsFirstBadIn, IsDecidedIn}
+use Rattle.lw_grammar.specs.GoodLines.{AreGoodLines}
+use Rattle.lw_grammar.proofs.ScriptStatements.{IsLineHere, line_here}
+use Rattle.lw_grammar.proofs.AreaLines.{area_good}
 use Rattle.std.proofs.lemmas.Bool.{true≢false}
 
--- What a line that was read is good for: its words have the statement, and the statement's tests hold.
-abbrev IsRead : Setting → List Statement → Statement → Type 0
-IsRead s above f = IsStatementHere s above f × (statement_tested s (told above) f ≡ Ok tt)
+-- What a line that was read is good for: it may stand here, and its tests hold.
+abbrev pub IsRead : Setting → List Statement → Line → Type 0
+IsRead s above l = IsLineHere s above l × (line_tested s (told above) l ≡ Ok tt)
 
--- a statement that is told has passed its tests
-read_tests : (s : Setting) (above : List Statement) (f g : Statement) → IsStatementHere s above f → (t : Result (Unit {0}) Reason) → statement_tested s (told above) f ≡ t → (t >>= (λ _. Ok f)) ≡ Ok g → IsRead s above g
-read_tests s above f g h (Ok u) e d =
-    let same : f ≡ g = cc in
-    subst (λ (k : Statement). IsRead s above k) same (h, e)
-read_tests s above f g h (Err r) e d = absurd (cc)
+-- what is told has passed its tests
+read_tests : (s : Setting) (above : List Statement) (l m : Line) → IsLineHere s above l → (t : Result (Unit {0}) Reason) → line_tested s (told above) l ≡ t → (t >>= (λ _. Ok l)) ≡ Ok m → IsRead s above m
+read_tests s above l m h (Ok u) e d =
+    let same : l ≡ m = cc in
+    subst (λ (k : Line). IsRead s above k) same (h, e)
+read_tests s above l m h (Err r) e d = absurd (cc)
 
 -- the same of the words that a line has, or has not
-read_words : (s : Setting) (above : List Statement) (g : Statement) (t : Result (List (List ℕ)) Reason) → (t >>= (λ ws. statement_read s.form (told above).version (told above).section (told above).rows_due (told above).row_width ws >>= (λ f. statement_tested s (told above) f >>= (λ _. Ok f)))) ≡ Ok g → IsRead s above g
-read_words s above g (Err r) e = absurd (cc)
-read_words s above g (Ok ws) e = at_statement (statement_read s.form (told above).version (told above).section (told above).rows_due (told above).row_width ws) (statement_here s above ws) e
+read_words : (s : Setting) (above : List Statement) (m : Line) (t : Result (List (List ℕ)) Reason) → (t >>= (λ ws. line_made s.form (told above).version (told above).section (told above).rows_due (told above).row_width ws >>= (λ l. line_tested s (told above) l >>= (λ _. Ok l)))) ≡ Ok m → IsRead s above m
+read_words s above m (Err r) e = absurd (cc)
+read_words s above m (Ok ws) e = at_line (line_made s.form (told above).version (told above).section (told above).rows_due (told above).row_width ws) (line_here s above ws) e
   where
-    at_statement : (r : Result Statement Reason) → IfOk r (IsStatementHere s above) → (r >>= (λ f. statement_tested s (told above) f >>= (λ _. Ok f))) ≡ Ok g → IsRead s above g
-    at_statement (Err r) h d = absurd (cc)
-    at_statement (Ok f) h d = read_tests s above f g h (statement_tested s (told above) f) refl d
+    at_line : (r : Result Line Reason) → IfOk r (IsLineHere s above) → (r >>= (λ l. line_tested s (told above) l >>= (λ _. Ok l))) ≡ Ok m → IsRead s above m
+    at_line (Err r) h d = absurd (cc)
+    at_line (Ok l) h d = read_tests s above l m h (line_tested s (told above) l) refl d
 
--- a good line's statement is good for this
-pub good_line : (s : Setting) (above : List Statement) (f : Statement) → IsGoodLine s above f → IsRead s above f
-good_line s above f g = read_words s above f (words_read g.line) g.read
+-- what a line says that was read is good for this
+pub line_good : (s : Setting) (above : List Statement) (line : List ℕ) (l : Line) → line_read s (told above) line ≡ Ok l → IsRead s above l
+line_good s above line l e = read_words s above l (words_read line) e
 
 -- rows of a bitmap are due where glyphs and bitmaps are
 pub rows_in_assets : (s : Setting) (above : List Statement) → AreGoodLines s above → ((told above).rows_due == 0) ≡ false → are_assets_due (told above).section ≡ true
 rows_in_assets s [] g e = absurd (true≢false e)
-rows_in_assets s (BitmapLine name w h d ∷ above) g e = (good_line s above (BitmapLine name w h d) g.0).0.1
-rows_in_assets s (RowLine bytes ∷ above) g e = rows_in_assets s above g.1 (good_line s above (RowLine bytes) g.0).0.0
-rows_in_assets s (f ∷ above) g e = absurd (true≢false (sym (good_line s above f g.0).0.0 ∙ e))
+rows_in_assets s (BitmapLine name w h d ∷ above) g e = g.0.here.1
+rows_in_assets s (RowLine bytes ∷ above) g e = rows_in_assets s above g.1 g.0.here.0
+rows_in_assets s (f ∷ above) g e = absurd (true≢false (sym g.0.here.0 ∙ e))
 
 -- What good lines give that were read to their end: they are good, and the input may end below them.
 pub record AreRead (s : Setting) (above : List Statement) : Type 0 where
@@ -55,38 +57,63 @@ end_same s p q e = go (may_end s.form (told p.statements).section) refl e
     go true d h = (let same : Ok p ≡ Ok q = h in cc, d)
     go false d h = absurd (cc)
 
-ends_read : (s : Setting) (p q : Reached) → AreGoodLines s p.statements → end_read s p ≡ Ok q → AreRead s q.statements
-ends_read s p q g e =
-    let h = end_same s p q e in subst (λ (r : Reached). AreRead s r.statements) h.0 (record { good = g; ended = h.1 })
+-- A property of statements that those have with the ones of each further line.
+abbrev pub IsKept : (List Statement → Type 0) → Setting → Type 0
+IsKept P s = (above : List Statement) (line : List ℕ) (l : Line) → line_read s (told above) line ≡ Ok l → P above → P (added (stands_for (told above) l) above)
+
+pub line_keeps : (P : List Statement → Type 0) (s : Setting) → IsKept P s → (above : List Statement) (line : List ℕ) → P above → IfOk (statements_with s above line) P
+line_keeps P s k above line h = go (is_skipped line)
+  where
+    at_read : (r : Result Line Reason) → line_read s (told above) line ≡ r → IfOk (r >>= (λ l. Ok (added (stands_for (told above) l) above))) P
+    at_read (Ok l) e = k above line l e h
+    at_read (Err r) e = tt
+
+    go : (b : Bool) → IfOk (cond b (Ok above) (line_read s (told above) line >>= (λ l. Ok (added (stands_for (told above) l) above)))) P
+    go true = h
+    go false = at_read (line_read s (told above) line) refl
+
+-- All statements that are read have it, and the input may end below them.
+end_keeps : (P : List Statement → Type 0) (s : Setting) (p q : Reached) → P p.statements → end_read s p ≡ Ok q → P q.statements × (may_end s.form (told q.statements).section ≡ true)
+end_keeps P s p q h e =
+    let same = end_same s p q e in
+    subst (λ (r : Reached). P r.statements × (may_end s.form (told r.statements).section ≡ true)) same.0 (h, same.1)
+
+pub lines_keep : (P : List Statement → Type 0) (s : Setting) → IsKept P s → (p q : Reached) (ls : List (List ℕ)) → P p.statements → lines_read s p ls ≡ Ok q → P q.statements × (may_end s.form (told q.statements).section ≡ true)
+lines_keep P s k p q [] h e = end_keeps P s p q h e
+lines_keep P s k p q (line ∷ ls) h e =
+    go (is_nothing_due (told p.statements).section) (λ statements g d. lines_keep P s k (with_line p line statements) q ls g d) e
+  where
+    Holds : Type 0
+    Holds = P q.statements × (may_end s.form (told q.statements).section ≡ true)
+
+    Next : Type 0
+    Next = (statements : List Statement) → P statements → lines_read s (with_line p line statements) ls ≡ Ok q → Holds
+
+    at_statements : (r : Result (List Statement) Reason) → IfOk r P → Next → (at_number p.number r >>= (λ statements. lines_read s (with_line p line statements) ls)) ≡ Ok q → Holds
+    at_statements (Ok statements) g next d = next statements g d
+    at_statements (Err r) g next d = absurd (cc)
+
+    go : (b : Bool) → Next → cond b (end_read s p) (at_number p.number (statements_with s p.statements line) >>= (λ statements. lines_read s (with_line p line statements) ls)) ≡ Ok q → Holds
+    go true next d = end_keeps P s p q h d
+    go false next d = at_statements (statements_with s p.statements line) (line_keeps P s k p.statements line h) next d
+
+-- the statements that a line stands for are good
+pub lines_more : (s : Setting) → IsKept (AreGoodLines s) s
+lines_more s above line l e g = go l (line_good s above line l e)
+  where
+    go : (l : Line) → IsRead s above l → AreGoodLines s (added (stands_for (told above) l) above)
+    go (StatementLine f) h = (record { here = h.0; tested = h.1 }, g)
+    go (AreaLine layer pattern points) h = area_good s above layer pattern points h.0 h.1 g
 
 -- a further line is good, or skipped
 pub with_good : (s : Setting) (above : List Statement) (line : List ℕ) → AreGoodLines s above → IfOk (statements_with s above line) (AreGoodLines s)
-with_good s above line g = go (is_skipped line)
-  where
-    at_read : (r : Result Statement Reason) → line_read s (told above) line ≡ r → IfOk (r >>= (λ statement. Ok (statement ∷ above))) (AreGoodLines s)
-    at_read (Ok f) e = (record { line = line; read = e }, g)
-    at_read (Err r) e = tt
-
-    go : (b : Bool) → IfOk (cond b (Ok above) (line_read s (told above) line >>= (λ statement. Ok (statement ∷ above)))) (AreGoodLines s)
-    go true = g
-    go false = at_read (line_read s (told above) line) refl
+with_good s above line g = line_keeps (AreGoodLines s) s (lines_more s) above line g
 
 -- all lines that are read are good
-pub lines_good : (s : Setting) (p q : Reached) (ls : List (List ℕ)) → AreGoodLines s p.statements → lines_read s p ls ≡ Ok q → AreRead s q.statements
-lines_good s p q [] g e = ends_read s p q g e
-lines_good s p q (line ∷ ls) g e =
-    go (is_nothing_due (told p.statements).section) (λ statements h d. lines_good s (with_line p line statements) q ls h d) e
-  where
-    Next : Type 0
-    Next = (statements : List Statement) → AreGoodLines s statements → lines_read s (with_line p line statements) ls ≡ Ok q → AreRead s q.statements
-
-    at_statements : (r : Result (List Statement) Reason) → IfOk r (AreGoodLines s) → Next → (at_number p.number r >>= (λ statements. lines_read s (with_line p line statements) ls)) ≡ Ok q → AreRead s q.statements
-    at_statements (Ok statements) h next d = next statements h d
-    at_statements (Err r) h next d = absurd (cc)
-
-    go : (b : Bool) → Next → cond b (end_read s p) (at_number p.number (statements_with s p.statements line) >>= (λ statements. lines_read s (with_line p line statements) ls)) ≡ Ok q → AreRead s q.statements
-    go true next d = ends_read s p q g d
-    go false next d = at_statements (statements_with s p.statements line) (with_good s p.statements line g) next d
+lines_good : (s : Setting) (p q : Reached) (ls : List (List ℕ)) → AreGoodLines s p.statements → lines_read s p ls ≡ Ok q → AreRead s q.statements
+lines_good s p q ls g e =
+    let k = lines_keep (AreGoodLines s) s (lines_more s) p q ls g e in
+    record { good = k.0; ended = k.1 }
 
 -- The input that bytes spell is that of good lines, below which an input may end.
 pub record IsOfLines (s : Setting) (bytes : List ℕ) (input : ScriptInput) : Type 0 where

@@ -12,12 +12,11 @@ use Rattle.lw_calls.specs.declared.limits.Limits.{Limits}
 use Rattle.lw_calls.specs.Limits.{limits_of, task_limit, bitmap_limit}
 use Rattle.lw_grammar.specs.Demands.{◌>>=◌, demand}
 use Rattle.lw_grammar.specs.Statements.{Statement, LayersLine, ScreenLine, GlyphLine, BitmapLine, RowLine, TaskLine, EndLine, OrderLine, NumbersLine, ReportLine, CallLine, LockLine, UnlockLine, version_at_screen, are_sizes_in_range, bitmap_size_limit, is_line_in_range}
-use Rattle.lw_grammar.specs.Told.{Section, ScreenIsDue, AssetsAreDue, CallsAreDue, TasksAreDue, NumbersAreDue, NothingIsDue, hook_on, told}
-use Rattle.lw_grammar.specs.Script.{Setting, is_screen_due, are_assets_due, are_calls_due, are_tasks_due, are_numbers_due, is_nothing_due, lacks_name, gives_again, fits_group, super_limit, are_few, is_no_hook, is_used, has_padding, statement_tested, may_end, AreGoodLines}
-use Rattle.lw_grammar.proofs.ScriptStatements.{IsStatementHere}
-use Rattle.lw_grammar.proofs.ScriptOutcome.{good_line}
+use Rattle.lw_grammar.specs.Told.{Section, ScreenIsDue, AssetsAreDue, CallsAreDue, TasksAreDue, NumbersAreDue, NothingIsDue, Told, hook_on, told}
+use Rattle.lw_grammar.specs.Script.{Setting, is_screen_due, are_assets_due, are_calls_due, are_tasks_due, are_numbers_due, is_nothing_due, lacks_name, gives_again, fits_group, pattern_limit, super_limit, are_few, is_no_hook, is_used, has_padding, statement_tested, may_end}
+use Rattle.lw_grammar.specs.GoodLines.{IsStatementHere, AreGoodLines}
 use Rattle.lw_grammar.proofs.ScriptCalls.{in_range, size_range}
-use Rattle.std.proofs.lemmas.Bool.{true≢false, false≢true, not-true, not_from_false, eqb-true, ne_eqb, leb-true, lt-ltb, and_parts}
+use Rattle.std.proofs.lemmas.Bool.{true≢false, false≢true, not-true, not_from_false, eqb-true, ne_eqb, leb-true, le-leb, lt-ltb, and_parts, and_from}
 use Rattle.std.proofs.lemmas.List.Elements.{All-nil, All-cons, All-append, All-push, All-map}
 
 -- each test of a good line's statement
@@ -32,17 +31,17 @@ pub record IsStatementTested (s : Setting) (above : List Statement) (f : Stateme
   pub padding : has_padding (told above).row_width f ≡ false
 
 -- a test that was passed holds, and those after it were passed
-passed : (b : Bool) (r : Reason) (t : Result (Unit {0}) Reason) → (demand b r >>= (λ _. t)) ≡ Ok tt → (b ≡ true) × (t ≡ Ok tt)
+pub passed : (b : Bool) (r : Reason) (t : Result (Unit {0}) Reason) → (demand b r >>= (λ _. t)) ≡ Ok tt → (b ≡ true) × (t ≡ Ok tt)
 passed true r t h = (refl, h)
 passed false r t h = absurd (cc)
 
 -- so does the last one
-passed_last : (b : Bool) (r : Reason) → demand b r ≡ Ok tt → b ≡ true
+pub passed_last : (b : Bool) (r : Reason) → demand b r ≡ Ok tt → b ≡ true
 passed_last true r h = refl
 passed_last false r h = absurd (cc)
 
 -- the tests of a statement that has passed them
-tests_passed : (s : Setting) (above : List Statement) (f : Statement) → statement_tested s (told above) f ≡ Ok tt → IsStatementTested s above f
+pub tests_passed : (s : Setting) (above : List Statement) (f : Statement) → statement_tested s (told above) f ≡ Ok tt → IsStatementTested s above f
 tests_passed s above f h =
     let a = passed (is_line_in_range (told above).version f) _ _ h in
     let b = passed (not (lacks_name (told above).bitmap_names f)) _ _ a.1 in
@@ -80,10 +79,10 @@ tests_pass s above f k =
 
 -- what the nearest of good lines is good for, and its tests
 pub here : (s : Setting) (above : List Statement) (f : Statement) → AreGoodLines s (f ∷ above) → IsStatementHere s above f
-here s above f g = (good_line s above f g.0).0
+here s above f g = g.0.here
 
 pub tests : (s : Setting) (above : List Statement) (f : Statement) → AreGoodLines s (f ∷ above) → IsStatementTested s above f
-tests s above f g = tests_passed s above f (good_line s above f g.0).1
+tests s above f g = tests_passed s above f g.0.tested
 
 -- a fact that is known where a test holds
 abbrev pub When : Bool → Type 0 → Type 0
@@ -193,35 +192,66 @@ unbegun s (f ∷ above) g n =
     let b = unbegun s above g.1 n in
     record { names = b.names; so_far = b.so_far }
 
--- the counts of lines, by a version's limits
-pub record AreCounted (limits : Limits) (above : List Statement) : Type 0 where
-  pub tasks : length (told above).tasks ≤ 16
-  pub bitmaps : length (told above).bitmap_names ≤ 16
-  pub names : length (told above).names ≤ limits.names
-  pub calls : (told above).so_far ≤ limits.calls
+-- the counts of what lines tell, by a version's limits
+pub record AreCounted (limits : Limits) (t : Told) : Type 0 where
+  pub tasks : length t.tasks ≤ 16
+  pub bitmaps : length t.bitmap_names ≤ 16
+  pub patterns : length t.pattern_names ≤ 16
+  pub names : length t.names ≤ limits.names
+  pub supers : t.supers ≤ 16
+  pub calls : t.so_far ≤ limits.calls
 
-few_counted : (limits : Limits) (above : List Statement) → are_few limits (told above) ≡ true → AreCounted limits above
-few_counted limits above few =
-    let halves = and_parts ((nat_le (length (told above).tasks) task_limit && nat_le (length (told above).bitmap_names) bitmap_limit) && nat_le (length (told above).names) limits.names) _ few in
-    let three = and_parts (nat_le (length (told above).tasks) task_limit && nat_le (length (told above).bitmap_names) bitmap_limit) _ halves.0 in
-    let two = and_parts (nat_le (length (told above).tasks) task_limit) _ three.0 in
-    let last = and_parts (nat_le (told above).supers super_limit) _ halves.1 in
-    record { tasks = leb-true _ _ two.0; bitmaps = leb-true _ _ two.1; names = leb-true _ _ three.1; calls = leb-true _ _ last.1 }
+pub few_counted : (limits : Limits) (t : Told) → are_few limits t ≡ true → AreCounted limits t
+few_counted limits t few =
+    let halves = and_parts ((nat_le (length t.tasks) task_limit && (nat_le (length t.bitmap_names) bitmap_limit && nat_le (length t.pattern_names) pattern_limit)) && nat_le (length t.names) limits.names) _ few in
+    let three = and_parts (nat_le (length t.tasks) task_limit && (nat_le (length t.bitmap_names) bitmap_limit && nat_le (length t.pattern_names) pattern_limit)) _ halves.0 in
+    let two = and_parts (nat_le (length t.tasks) task_limit) _ three.0 in
+    let assets = and_parts (nat_le (length t.bitmap_names) bitmap_limit) _ two.1 in
+    let last = and_parts (nat_le t.supers super_limit) _ halves.1 in
+    record {
+      tasks = leb-true _ _ two.0;
+      bitmaps = leb-true _ _ assets.0;
+      patterns = leb-true _ _ assets.1;
+      names = leb-true _ _ three.1;
+      supers = leb-true _ _ last.0;
+      calls = leb-true _ _ last.1;
+    }
+
+pub counted_few : (limits : Limits) (t : Told) → AreCounted limits t → are_few limits t ≡ true
+counted_few limits t c =
+    let assets = and_from _ _ (le-leb (length t.bitmap_names) bitmap_limit c.bitmaps) (le-leb (length t.pattern_names) pattern_limit c.patterns) in
+    let three = and_from _ _ (and_from _ _ (le-leb (length t.tasks) task_limit c.tasks) assets) (le-leb (length t.names) limits.names c.names) in
+    and_from _ _ three (and_from _ _ (le-leb t.supers super_limit c.supers) (le-leb t.so_far limits.calls c.calls))
 
 -- they stay few in each version where no task has begun
-unbegun_counted : (limits other : Limits) (above : List Statement) → AreCounted limits above → IsUnbegun above → AreCounted other above
+unbegun_counted : (limits other : Limits) (above : List Statement) → AreCounted limits (told above) → IsUnbegun above → AreCounted other (told above)
 unbegun_counted limits other above c b =
     let names : length (told above).names ≡ 0 = ap length b.names in
-    record { tasks = c.tasks; bitmaps = c.bitmaps; names = omega (arith, names); calls = omega (arith, b.so_far) }
+    record {
+      tasks = c.tasks;
+      bitmaps = c.bitmaps;
+      patterns = c.patterns;
+      names = omega (arith, names);
+      supers = c.supers;
+      calls = omega (arith, b.so_far);
+    }
 
 -- good lines are few
-pub counted : (s : Setting) (above : List Statement) → AreGoodLines s above → AreCounted (limits_of (told above).version) above
-counted s [] g = record { tasks = omega arith; bitmaps = omega arith; names = omega arith; calls = omega arith }
+pub counted : (s : Setting) (above : List Statement) → AreGoodLines s above → AreCounted (limits_of (told above).version) (told above)
+counted s [] g =
+    record {
+      tasks = omega arith;
+      bitmaps = omega arith;
+      patterns = omega arith;
+      names = omega arith;
+      supers = omega arith;
+      calls = omega arith;
+    }
 counted s (LayersLine ∷ above) g =
-    unbegun_counted (limits_of (told above).version) _ (LayersLine ∷ above) (few_counted _ (LayersLine ∷ above) (tests s above LayersLine g).few) (unbegun s (LayersLine ∷ above) g (ap has_begun (version_first s above g)))
+    unbegun_counted (limits_of (told above).version) _ (LayersLine ∷ above) (few_counted _ (told (LayersLine ∷ above)) (tests s above LayersLine g).few) (unbegun s (LayersLine ∷ above) g (ap has_begun (version_first s above g)))
 counted s (ScreenLine w h d ∷ above) g =
-    unbegun_counted (limits_of (told above).version) _ (ScreenLine w h d ∷ above) (few_counted _ (ScreenLine w h d ∷ above) (tests s above (ScreenLine w h d) g).few) (unbegun s (ScreenLine w h d ∷ above) g refl)
-counted s (f ∷ above) g = few_counted (limits_of (told above).version) (f ∷ above) (tests s above f g).few
+    unbegun_counted (limits_of (told above).version) _ (ScreenLine w h d ∷ above) (few_counted _ (told (ScreenLine w h d ∷ above)) (tests s above (ScreenLine w h d) g).few) (unbegun s (ScreenLine w h d ∷ above) g refl)
+counted s (f ∷ above) g = few_counted (limits_of (told above).version) (told (f ∷ above)) (tests s above f g).few
 
 -- a width and a height up to a limit, and a depth
 pub record AreSizesUpTo (limit w h d : ℕ) : Type 0 where
@@ -328,7 +358,7 @@ whole_ends Ordered above e = end_by_numbers (told above).section e
 whole_ends Audited above e = end_by_nothing (told above).section e
 
 -- the rows of a glyph are eight
-glyph_rows : (s : Setting) (above : List Statement) → AreGoodLines s above → (code : ℕ) → length ((told above).glyphs code) ≡ 8
+pub glyph_rows : (s : Setting) (above : List Statement) → AreGoodLines s above → (code : ℕ) → length ((told above).glyphs code) ≡ 8
 glyph_rows s [] g code = refl
 glyph_rows s (GlyphLine c rows ∷ above) g code = step (c == code) (glyph_rows s above g.1 code)
   where

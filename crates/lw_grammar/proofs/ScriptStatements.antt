@@ -1,5 +1,5 @@
 -- What the words of a line that has a statement were good for: where the line stands, and how the statement is made.
-use Rattle.std.proofs.Common.{◌≡◌, ℕ, suc, ◌+◌, ◌*◌, ◌%◌, ◌^◌, ◌<◌, ◌≤◌, ◌==◌, Bool, true, false, not, cond, ◌&&◌, ◌||◌, nat_le, List, [], ◌∷◌, length, map, ℤ, pos, codes, bytes_eq, Option, Some, None, option_map, option_and_then, ok_or, IfSome, refl, ap, subst, ◌∙◌, arith, pow_mono, pow-suc, add-one}
+use Rattle.std.proofs.Common.{◌≡◌, ℕ, suc, ◌+◌, ◌*◌, ◌%◌, ◌^◌, ◌<◌, ◌≤◌, ◌==◌, Bool, true, false, not, cond, ◌&&◌, nat_le, List, [], ◌∷◌, length, map, drop, codes, bytes_eq, Option, Some, None, option_map, option_and_then, ok_or, IfSome, refl, sym, ap, subst, ◌∙◌, arith, pow_mono, pow-suc, add-one}
 use Rattle.std.specs.Result.{IfOk}
 use Rattle.lw_region.specs.Rectangle.{Rectangle}
 use Rattle.lw_planes.specs.Bitmap.{row_bytes}
@@ -12,69 +12,23 @@ use Rattle.lw_grammar.specs.declared.form.Form.{Form}
 use Rattle.lw_grammar.specs.declared.reason.Reason.{Reason}
 use Rattle.lw_grammar.specs.declared.reason.Reason.TheVariants.{UnknownWord, Misplaced, Form as FormReason}
 use Rattle.lw_grammar.specs.declared.verb.PartVerb.{PartVerb}
-use Rattle.lw_grammar.specs.declared.verb.PartVerb.TheVariants.{Layers as LayersVerb, Screen as ScreenVerb, Glyph as GlyphVerb, Bitmap as BitmapVerb, Task as TaskVerb, End as EndVerb, Order as OrderVerb, Report as ReportVerb, Lock as LockVerb, Unlock as UnlockVerb, Hold as HoldVerb, Release as ReleaseVerb}
+use Rattle.lw_grammar.specs.declared.verb.PartVerb.TheVariants.{Layers as LayersVerb, Screen as ScreenVerb, Glyph as GlyphVerb, Bitmap as BitmapVerb, Pattern as PatternVerb, Task as TaskVerb, End as EndVerb, Order as OrderVerb, Report as ReportVerb, Lock as LockVerb, Unlock as UnlockVerb, Hold as HoldVerb, Release as ReleaseVerb}
 use Rattle.lw_grammar.specs.declared.verb.BareVerb.{BareVerb}
 use Rattle.lw_grammar.specs.declared.verb.NumberVerb.{NumberVerb}
 use Rattle.lw_grammar.specs.declared.verb.PairVerb.{PairVerb}
 use Rattle.lw_grammar.specs.declared.verb.TextVerb.{TextVerb}
 use Rattle.lw_grammar.specs.declared.verb.Verb.{Verb}
-use Rattle.lw_grammar.specs.declared.verb.Verb.TheVariants.{Part, Bare, Number, Pair, Text, Rect, Region, ClearRegion, Create, Open, InFront, Box, Which, Fill, ScrollRaster, Put, Blit, EndRefresh}
+use Rattle.lw_grammar.specs.declared.verb.Verb.TheVariants.{Part, Bare, Number, Pair, Text, Rect, Region, ClearRegion, Create, Open, InFront, Box, Which, Fill, ScrollRaster, Put, Blit, EndRefresh, Area as AreaVerb, AreaPattern as AreaPatternVerb}
 use Rattle.lw_calls.specs.Limits.{is_minterm}
 use Rattle.lw_calls.specs.Kinds.{is_super}
-use Rattle.lw_grammar.specs.Tokens.{Token, NameToken, NumberToken, TextToken, OddToken, token_of, is_hex, hex_value, hex_bytes, spelled_bytes, bytes_in}
-use Rattle.lw_grammar.specs.Statements.{layers_of, NewLayer, Act, BareAct, NumberAct, PairAct, TextAct, RegRectAct, RegPairAct, RegClearAct, CreateAct, OpenAct, InFrontAct, BoxAct, WhichAct, FillAct, ScrollRasterAct, PutAct, BlitAct, EndRefreshAct, Statement, LayersLine, ScreenLine, GlyphLine, BitmapLine, RowLine, TaskLine, EndLine, OrderLine, NumbersLine, ReportLine, CallLine, LockLine, UnlockLine, HoldLine, ReleaseLine, four, layers_line, screen_line, glyph_of_bytes, glyph_line, bitmap_line, row_line, all_numbers, numbers_limit, numbers_line, name_line, alone_line, part_line, layer_line, number_line, pair_line, text_line, rect_line, region_line, clear_line, which_line, infront_line, four_line, scrollraster_line, minterm_of, blit_end, blit_area, put_line, blit_line, endrefresh_line, kind_of, place_of, flag, hook_option, message_class_of, classes_from, asked_classes, ask_option, at_end, create_super, create_kind, titled_line, open_super, open_kind, new_layer_line, statement_by}
+use Rattle.lw_grammar.specs.Tokens.{Token, NameToken, NumberToken, TextToken, OddToken, is_a_text, is_a_name, is_a_number, without_last, value_of_number, token_of, is_hex, hex_value, hex_bytes, spelled_bytes, bytes_in}
+use Rattle.lw_grammar.specs.Statements.{layers_of, NewLayer, Act, BareAct, NumberAct, PairAct, TextAct, RegRectAct, RegPairAct, RegClearAct, OpenAct, InFrontAct, BoxAct, WhichAct, FillAct, ScrollRasterAct, PutAct, BlitAct, EndRefreshAct, Statement, LayersLine, ScreenLine, GlyphLine, BitmapLine, RowLine, PatternLine, TaskLine, EndLine, OrderLine, NumbersLine, ReportLine, CallLine, LockLine, UnlockLine, HoldLine, ReleaseLine, Line, StatementLine, AreaLine, four, layers_line, screen_line, glyph_of_bytes, glyph_line, bitmap_line, row_line, pattern_words, is_pattern_count, pattern_line, all_numbers, numbers_limit, numbers_line, name_line, alone_line, part_line, layer_line, number_line, pair_line, text_line, rect_line, region_line, clear_line, which_line, infront_line, four_line, scrollraster_line, minterm_of, blit_end, blit_area, put_line, blit_line, endrefresh_line, kind_of, place_of, flag, hook_option, message_class_of, classes_from, asked_classes, ask_option, at_end, create_super, create_kind, titled_line, open_super, open_kind, new_layer_line, area_points, area_line, area_pattern_line, statement_by, line_by}
 use Rattle.lw_grammar.specs.Told.{Section, told}
-use Rattle.lw_grammar.specs.Script.{Setting, is_screen_due, are_assets_due, are_calls_due, are_tasks_due, are_numbers_due, is_ordered, is_audited, is_known_in, belongs_in, verb_on, after_verb, verb_read, statement_read}
+use Rattle.lw_grammar.specs.Script.{Setting, is_screen_due, are_assets_due, are_calls_due, are_numbers_due, is_known_in, belongs_in, verb_on, after_verb, verb_read, stated, line_made}
+use Rattle.lw_grammar.specs.GoodLines.{belongs_at, is_known_act, is_known_line, IsNewLayerOf, IsActMade, IsStatementMade, AreBytes, IsStatementHere}
 use Rattle.lw_grammar.specs.Demands.{◌>>=◌, demand}
 use Rattle.std.proofs.lemmas.Bool.{false≢true, eqb-true, leb-true, le-leb, and_parts, and_from, and_right}
 use Rattle.std.proofs.lemmas.Bool.Decides.{nat_tests}
-
--- A line with this statement, which begins with a verb, belongs in this version and section of this input.
-abbrev pub belongs_at : Form → ℕ → Section → Statement → Bool
-belongs_at form version s LayersLine = is_screen_due s && (version == 0)
-belongs_at form version s (ScreenLine w h d) = is_screen_due s
-belongs_at form version s (GlyphLine code rows) = are_assets_due s
-belongs_at form version s (BitmapLine name w h d) = are_assets_due s
-belongs_at form version s (RowLine bytes) = false
-belongs_at form version s (TaskLine name) = are_assets_due s || are_tasks_due s
-belongs_at form version s EndLine = are_calls_due s
-belongs_at form version s OrderLine = are_tasks_due s && is_ordered form
-belongs_at form version s (NumbersLine zs) = false
-belongs_at form version s ReportLine = are_tasks_due s && is_audited form
-belongs_at form version s (CallLine layers act) = are_calls_due s
-belongs_at form version s (LockLine name) = are_calls_due s
-belongs_at form version s (UnlockLine name) = are_calls_due s
-belongs_at form version s HoldLine = are_calls_due s
-belongs_at form version s ReleaseLine = are_calls_due s
-
--- Some line has this act, or this statement, where the lines above tell this version.
-abbrev pub is_known_act : ℕ → Act → Bool
-is_known_act version (NumberAct verb z) = is_known_in version (Number verb)
-is_known_act version act = true
-
-abbrev pub is_known_line : ℕ → Statement → Bool
-is_known_line version (CallLine layers act) = is_known_act version act
-is_known_line version statement = true
-
--- a layer with a bitmap of its own has no hook, and no other has the size of one
-abbrev pub IsNewLayerOf : Kind → NewLayer → Type 0
-IsNewLayerOf Simple a = (a.bits_w ≡ pos 0) × (a.bits_h ≡ pos 0)
-IsNewLayerOf Smart a = (a.bits_w ≡ pos 0) × (a.bits_h ≡ pos 0)
-IsNewLayerOf SuperBitmap a = a.hook ≡ None
-
--- what the words of a call are good for, besides the ranges of its numbers
-abbrev pub IsActMade : Act → Type 0
-IsActMade (CreateAct a) = IsNewLayerOf a.kind a
-IsActMade (OpenAct a framed nocare classes title) = IsNewLayerOf a.kind a × ((framed && is_super a.kind) ≡ false) × (classes < 32)
-IsActMade (PutAct bm b) = is_minterm b.minterm ≡ true
-IsActMade (BlitAct b) = is_minterm b.minterm ≡ true
-IsActMade act = Unit {0}
-
--- the same of a line
-abbrev pub IsStatementMade : Statement → Type 0
-IsStatementMade (GlyphLine code rows) = length rows ≡ 8
-IsStatementMade (CallLine layers act) = (length layers ≡ layers_of act) × IsActMade act
-IsStatementMade statement = Unit {0}
 
 -- The statement is made of words after a verb that is known and whose lines stand here, or not.
 pub record IsVerbStatement (form : Form) (version : ℕ) (s : Section) (stands : Bool) (f : Statement) : Type 0 where
@@ -110,6 +64,11 @@ pub map_has : {A B : Type 0} (Q : A → Type 0) (P : B → Type 0) (g : A → B)
 map_has Q P g None q h = tt
 map_has Q P g (Some a) q h = h a q
 
+-- the same where it is of anything that is found
+pub map_all : {A B : Type 0} (P : B → Type 0) (g : A → B) (o : Option A) → ((a : A) → P (g a)) → IfSome (option_map g o) P
+map_all P g None h = tt
+map_all P g (Some a) h = h a
+
 -- the same of what is made of this in turn
 pub twice_has : {A B C : Type 0} (Q : A → Type 0) (P : C → Type 0) (f : B → C) (g : A → B) (o : Option A) → IfSome o Q → ((a : A) → Q a → P (f (g a))) → IfSome (option_map f (option_map g o)) P
 twice_has Q P f g None q h = tt
@@ -118,11 +77,6 @@ twice_has Q P f g (Some a) q h = h a q
 -- a hexadecimal digit counts at most 15
 pub hex_small : (b : ℕ) → is_hex b ≡ true → hex_value b ≤ 15
 hex_small b h = grind (arith, nat_tests)
-
--- each of these is a byte
-abbrev pub AreBytes : List ℕ → Type 0
-AreBytes [] = Unit {0}
-AreBytes (b ∷ bs) = (b ≤ 255) × AreBytes bs
 
 -- bytes that so many digits spell
 abbrev pub AreSpelled : ℕ → List ℕ → Type 0
@@ -261,6 +215,13 @@ module _ (form : Form) (version : ℕ) (s : Section) where
   bitmap_made (NameToken n ∷ NumberToken a w ∷ NumberToken b h ∷ NumberToken c d ∷ []) = belongs_so form version s (BitmapLine n w h d) refl tt
   bitmap_made _ = tt
 
+  -- pattern PN HHHH ..
+  pattern_made : (ts : List Token) → IfSome (pattern_line ts) (IsVerbStatement form version s ((version == 2) && are_assets_due s))
+  pattern_made (NameToken n ∷ ts) =
+      let P : Statement → Type 0 = IsVerbStatement form version s ((version == 2) && are_assets_due s) in
+      either_has P (is_pattern_count (length ts)) _ None (map_all P (λ ws. PatternLine n ws) (pattern_words ts) (λ ws. record { place = λ e. (and_parts (version == 2) _ e).1; known = λ e. refl; made = tt })) tt
+  pattern_made _ = tt
+
   -- a verb with a name
   name_made : (f : List ℕ → Statement) (stands : Bool) → ((n : List ℕ) → IsVerbStatement form version s stands (f n)) → (ts : List Token) → IfSome (name_line f ts) (IsVerbStatement form version s stands)
   name_made f stands h (NameToken n ∷ []) = h n
@@ -277,6 +238,7 @@ module _ (form : Form) (version : ℕ) (s : Section) where
   part_made ScreenVerb ts = screen_made ts
   part_made GlyphVerb ts = glyph_made ts
   part_made BitmapVerb ts = bitmap_made ts
+  part_made PatternVerb ts = pattern_made ts
   part_made TaskVerb ts = name_made _ _ (λ n. belongs_so form version s (TaskLine n) refl tt) ts
   part_made EndVerb ts = bare_made EndLine _ (belongs_so form version s EndLine refl tt) ts
   part_made OrderVerb ts = bare_made OrderLine _ (belongs_so form version s OrderLine refl tt) ts
@@ -421,13 +383,8 @@ verb_made form version s ScrollRaster ts = scrollraster_made form version s ts
 verb_made form version s Put ts = put_made form version s ts
 verb_made form version s Blit ts = blit_made form version s ts
 verb_made form version s EndRefresh ts = endrefresh_made form version s ts
-
--- What a line with this statement was good for, below lines with these statements.
-abbrev pub IsStatementHere : Setting → List Statement → Statement → Type 0
-IsStatementHere s above (RowLine bytes) = (((told above).rows_due == 0) ≡ false) × (length bytes ≡ row_bytes (told above).row_width)
-IsStatementHere s above (NumbersLine zs) = (((told above).rows_due == 0) ≡ true) × (are_numbers_due (told above).section ≡ true)
-IsStatementHere s above f =
-    (((told above).rows_due == 0) ≡ true) × (belongs_at s.form (told above).version (told above).section f ≡ true) × IsStatementMade f × (is_known_line (told above).version f ≡ true)
+verb_made form version s AreaVerb ts = tt
+verb_made form version s AreaPatternVerb ts = tt
 
 -- a statement of a verb is good for this, where its lines stand
 verb_here : (s : Setting) (above : List Statement) → ((told above).rows_due == 0) ≡ true → (stands : Bool) → stands ≡ true → (f : Statement) → IsVerbStatement s.form (told above).version (told above).section stands f → IsStatementHere s above f
@@ -440,8 +397,60 @@ pub found_has : {A : Type 0} (P : A → Type 0) (o : Option A) (r : Reason) → 
 found_has P None r h = tt
 found_has P (Some a) r h = h
 
+-- What an area's line was good for: it stands in a task, and its layer has a name.
+pub record IsAreaHere (above : List Statement) (layer : List ℕ) : Type 0 where
+  pub rows : ((told above).rows_due == 0) ≡ true
+  pub calls : are_calls_due (told above).section ≡ true
+  pub name : token_of layer ≡ NameToken layer
+
+-- The same of any line.
+abbrev pub IsLineHere : Setting → List Statement → Line → Type 0
+IsLineHere s above (StatementLine f) = IsStatementHere s above f
+IsLineHere s above (AreaLine layer pattern points) = IsAreaHere above layer
+
+-- a word that is a name is that name
+name_itself : (w l : List ℕ) → token_of w ≡ NameToken l → token_of l ≡ NameToken l
+name_itself w l h =
+    let same = go (is_a_text w) (is_a_name w) (is_a_number w) h in
+    subst (λ (k : List ℕ). token_of k ≡ NameToken k) same (h ∙ ap (λ (k : List ℕ). NameToken k) (sym same))
+  where
+    go : (t n m : Bool) → cond t (TextToken (without_last (drop 1 w))) (cond n (NameToken w) (cond m (NumberToken w (value_of_number w)) (OddToken w))) ≡ NameToken l → w ≡ l
+    go true n m e = absurd (cc)
+    go false true m e = cc
+    go false false true e = absurd (cc)
+    go false false false e = absurd (cc)
+
+-- a statement that is found, as a line
+stated_has : (s : Setting) (above : List Statement) (o : Option Statement) → IfSome o (IsStatementHere s above) → IfSome (stated o) (IsLineHere s above)
+stated_has s above o h = map_has (IsStatementHere s above) (IsLineHere s above) (λ f. StatementLine f) o h (λ f k. k)
+
+module _ (s : Setting) (above : List Statement) (rows : ((told above).rows_due == 0) ≡ true) (calls : are_calls_due (told above).section ≡ true) where
+  -- area L X Y X Y X Y ..
+  area_here : (ws : List (List ℕ)) → IfSome (area_line (map token_of ws)) (IsLineHere s above)
+  area_here [] = tt
+  area_here (w ∷ ws) = step (token_of w) refl
+    where
+      step : (t : Token) → token_of w ≡ t → IfSome (area_line (t ∷ map token_of ws)) (IsLineHere s above)
+      step (NameToken l) h = map_all (IsLineHere s above) (λ ps. AreaLine l None ps) (area_points (map token_of ws)) (λ ps. record { rows = rows; calls = calls; name = name_itself w l h })
+      step _ h = tt
+
+  -- areapat L PN X Y X Y X Y ..
+  area_pattern_here : (ws : List (List ℕ)) → IfSome (area_pattern_line (map token_of ws)) (IsLineHere s above)
+  area_pattern_here [] = tt
+  area_pattern_here (w ∷ []) = alone (token_of w)
+    where
+      alone : (t : Token) → IfSome (area_pattern_line (t ∷ [])) (IsLineHere s above)
+      alone (NameToken l) = tt
+      alone _ = tt
+  area_pattern_here (w ∷ v ∷ ws) = step (token_of w) refl (token_of v)
+    where
+      step : (t : Token) → token_of w ≡ t → (u : Token) → IfSome (area_pattern_line (t ∷ u ∷ map token_of ws)) (IsLineHere s above)
+      step (NameToken l) h (NameToken n) = map_all (IsLineHere s above) (λ ps. AreaLine l (Some n) ps) (area_points (map token_of ws)) (λ ps. record { rows = rows; calls = calls; name = name_itself w l h })
+      step (NameToken l) h _ = tt
+      step _ h u = tt
+
 -- the same of each line with a verb
-verb_line_here : (s : Setting) (above : List Statement) → ((told above).rows_due == 0) ≡ true → (ws : List (List ℕ)) → IfOk (verb_read s.form (told above).version (told above).section ws) (IsStatementHere s above)
+verb_line_here : (s : Setting) (above : List Statement) → ((told above).rows_due == 0) ≡ true → (ws : List (List ℕ)) → IfOk (verb_read s.form (told above).version (told above).section ws) (IsLineHere s above)
 verb_line_here s above e ws = at_verb (verb_on ws)
   where
     is_known : Verb → Bool
@@ -450,42 +459,53 @@ verb_line_here s above e ws = at_verb (verb_on ws)
     belongs : Verb → Bool
     belongs v = belongs_in s.form (told above).version (told above).section v
 
-    at_statement : (v : Verb) → (is_known v && belongs v) ≡ true → (o : Option Statement) → IfSome o (IsVerbStatement s.form (told above).version (told above).section (is_known v && belongs v)) → IfOk (ok_or o FormReason) (IsStatementHere s above)
-    at_statement v h None k = tt
-    at_statement v h (Some f) k = verb_here s above e _ h f k
+    at_line : (v : Verb) → (is_known v && belongs v) ≡ true → IfSome (line_by v (map token_of (after_verb ws))) (IsLineHere s above)
+    at_line AreaVerb h = area_here s above e (and_parts (is_known AreaVerb) _ h).1 (after_verb ws)
+    at_line AreaPatternVerb h = area_pattern_here s above e (and_parts (is_known AreaPatternVerb) _ h).1 (after_verb ws)
+    at_line v h =
+        map_has (IsVerbStatement s.form (told above).version (told above).section (is_known v && belongs v)) (IsLineHere s above) (λ f. StatementLine f) (statement_by v (map token_of (after_verb ws))) (verb_made s.form (told above).version (told above).section v (map token_of (after_verb ws))) (λ f k. verb_here s above e _ h f k)
 
-    at_tests : (v : Verb) (a b : Bool) → is_known v ≡ a → belongs v ≡ b → IfOk (demand a UnknownWord >>= (λ _. demand b Misplaced >>= (λ _. ok_or (statement_by v (map token_of (after_verb ws))) FormReason))) (IsStatementHere s above)
+    at_tests : (v : Verb) (a b : Bool) → is_known v ≡ a → belongs v ≡ b → IfOk (demand a UnknownWord >>= (λ _. demand b Misplaced >>= (λ _. ok_or (line_by v (map token_of (after_verb ws))) FormReason))) (IsLineHere s above)
     at_tests v false b k h = tt
     at_tests v true false k h = tt
-    at_tests v true true k h = at_statement v (and_from _ _ k h) (statement_by v (map token_of (after_verb ws))) (verb_made s.form (told above).version (told above).section v (map token_of (after_verb ws)))
+    at_tests v true true k h = found_has (IsLineHere s above) _ FormReason (at_line v (and_from _ _ k h))
 
-    at_verb : (o : Option Verb) → IfOk (ok_or o UnknownWord >>= (λ v. demand (is_known v) UnknownWord >>= (λ _. demand (belongs v) Misplaced >>= (λ _. ok_or (statement_by v (map token_of (after_verb ws))) FormReason)))) (IsStatementHere s above)
+    at_verb : (o : Option Verb) → IfOk (ok_or o UnknownWord >>= (λ v. demand (is_known v) UnknownWord >>= (λ _. demand (belongs v) Misplaced >>= (λ _. ok_or (line_by v (map token_of (after_verb ws))) FormReason)))) (IsLineHere s above)
     at_verb None = tt
     at_verb (Some v) = at_tests v (is_known v) (belongs v) refl refl
 
 -- a row of a bitmap
 row_here : (s : Setting) (above : List Statement) → ((told above).rows_due == 0) ≡ false → (ts : List Token) → IfSome (row_line (told above).row_width ts) (IsStatementHere s above)
 row_here s above e (t ∷ []) =
-    map_has (AreSoMany (row_bytes (told above).row_width)) (IsStatementHere s above) _ (bytes_in (row_bytes (told above).row_width) t) (token_spelled _ t) (λ bytes k. (e, k.0))
+    map_has (AreSoMany (row_bytes (told above).row_width)) (IsStatementHere s above) _ (bytes_in (row_bytes (told above).row_width) t) (token_spelled _ t) (λ bytes k. (e, k.0, k.1))
 row_here s above e _ = tt
+
+-- as many numbers as words
+numbers_long : (ts : List Token) → IfSome (all_numbers ts) (λ zs. length zs ≡ length ts)
+numbers_long [] = refl
+numbers_long (NumberToken a z ∷ ts) =
+    map_has (λ zs. length zs ≡ length ts) (λ zs. length zs ≡ suc (length ts)) (λ zs. z ∷ zs) (all_numbers ts) (numbers_long ts) (λ zs h. ap suc h)
+numbers_long (NameToken w ∷ ts) = tt
+numbers_long (TextToken w ∷ ts) = tt
+numbers_long (OddToken w ∷ ts) = tt
 
 -- numbers of an order
 numbers_here : (s : Setting) (above : List Statement) → ((told above).rows_due == 0) ≡ true → are_numbers_due (told above).section ≡ true → (ts : List Token) → IfSome (numbers_line ts) (IsStatementHere s above)
-numbers_here s above e d ts =
-    either_has (IsStatementHere s above) (nat_le (length ts) numbers_limit) _ None (map_has (λ zs. Unit {0}) (IsStatementHere s above) _ (all_numbers ts) (some_has (all_numbers ts)) (λ zs k. (e, d))) tt
+numbers_here s above e d ts = step (nat_le (length ts) numbers_limit) refl
   where
-    some_has : (o : Option (List ℤ)) → IfSome o (λ zs. Unit {0})
-    some_has None = tt
-    some_has (Some zs) = tt
+    step : (t : Bool) → nat_le (length ts) numbers_limit ≡ t → IfSome (cond t (option_map (λ zs. NumbersLine zs) (all_numbers ts)) None) (IsStatementHere s above)
+    step false h = tt
+    step true h =
+        map_has (λ zs. length zs ≡ length ts) (IsStatementHere s above) (λ zs. NumbersLine zs) (all_numbers ts) (numbers_long ts) (λ zs k. (e, d, subst (λ (n : ℕ). n ≤ numbers_limit) (sym k) (leb-true (length ts) numbers_limit h)))
 
--- The statement that is read is good for what a line of it is good for here.
-pub statement_here : (s : Setting) (above : List Statement) (ws : List (List ℕ)) → IfOk (statement_read s.form (told above).version (told above).section (told above).rows_due (told above).row_width ws) (IsStatementHere s above)
-statement_here s above ws = at_rows ((told above).rows_due == 0) refl
+-- What a line's words say is good for what such a line is good for here.
+pub line_here : (s : Setting) (above : List Statement) (ws : List (List ℕ)) → IfOk (line_made s.form (told above).version (told above).section (told above).rows_due (told above).row_width ws) (IsLineHere s above)
+line_here s above ws = at_rows ((told above).rows_due == 0) refl
   where
-    at_numbers : (t : Bool) → are_numbers_due (told above).section ≡ t → ((told above).rows_due == 0) ≡ true → IfOk (cond t (ok_or (numbers_line (map token_of ws)) FormReason) (verb_read s.form (told above).version (told above).section ws)) (IsStatementHere s above)
-    at_numbers true d e = found_has (IsStatementHere s above) _ FormReason (numbers_here s above e d (map token_of ws))
+    at_numbers : (t : Bool) → are_numbers_due (told above).section ≡ t → ((told above).rows_due == 0) ≡ true → IfOk (cond t (ok_or (stated (numbers_line (map token_of ws))) FormReason) (verb_read s.form (told above).version (told above).section ws)) (IsLineHere s above)
+    at_numbers true d e = found_has (IsLineHere s above) _ FormReason (stated_has s above _ (numbers_here s above e d (map token_of ws)))
     at_numbers false d e = verb_line_here s above e ws
 
-    at_rows : (t : Bool) → ((told above).rows_due == 0) ≡ t → IfOk (cond (not t) (ok_or (row_line (told above).row_width (map token_of ws)) FormReason) (cond (are_numbers_due (told above).section) (ok_or (numbers_line (map token_of ws)) FormReason) (verb_read s.form (told above).version (told above).section ws))) (IsStatementHere s above)
+    at_rows : (t : Bool) → ((told above).rows_due == 0) ≡ t → IfOk (cond (not t) (ok_or (stated (row_line (told above).row_width (map token_of ws))) FormReason) (cond (are_numbers_due (told above).section) (ok_or (stated (numbers_line (map token_of ws))) FormReason) (verb_read s.form (told above).version (told above).section ws))) (IsLineHere s above)
     at_rows true e = at_numbers (are_numbers_due (told above).section) refl e
-    at_rows false e = found_has (IsStatementHere s above) _ FormReason (row_here s above e (map token_of ws))
+    at_rows false e = found_has (IsLineHere s above) _ FormReason (stated_has s above _ (row_here s above e (map token_of ws)))

@@ -12,8 +12,8 @@ use Rattle.lw_calls.specs.Plan.{is_one, is_all, begins_update, ends_update, may_
 use Rattle.lw_grammar.specs.declared.verb.BareVerb.TheVariants.{Refresh as RefreshVerb}
 use Rattle.lw_grammar.specs.Statements.{Act, BareAct, NumberAct, PairAct, TextAct, EndRefreshAct, Statement, LayersLine, ScreenLine, BitmapLine, TaskLine, EndLine, OrderLine, ReportLine, CallLine, LockLine, UnlockLine, HoldLine, ReleaseLine, layers_of}
 use Rattle.lw_grammar.specs.Told.{Section, ScreenIsDue, AssetsAreDue, CallsAreDue, TasksAreDue, NumbersAreDue, NothingIsDue, OpenGroup, Locked, Updating, Held, and_names, place_among, onto_last, spelled_call, call_below, hook_on, left_open_by, group_from, told}
-use Rattle.lw_grammar.specs.Script.{Setting, are_assets_due, are_calls_due, are_tasks_due, is_beginning, is_ending, is_on_one, group_allows, is_lock_on, is_hold, is_no_hook, AreGoodLines}
-use Rattle.lw_grammar.proofs.ScriptStatements.{is_known_act}
+use Rattle.lw_grammar.specs.Script.{Setting, are_assets_due, are_calls_due, are_tasks_due, is_beginning, is_ending, is_on_one, group_allows, is_lock_on, is_hold, is_no_hook}
+use Rattle.lw_grammar.specs.GoodLines.{is_known_act, AreGoodLines}
 use Rattle.lw_grammar.proofs.ScriptNames.{equal_names, names_grow, any_kept, place_kept, all_named, places_below}
 use Rattle.lw_grammar.proofs.ScriptCalls.{act_fits}
 use Rattle.lw_grammar.proofs.ScriptGroups.{begins_so, ends_so, number_plain, pair_plain, text_plain, touches_all, on_one, EndBefore, end_later, end_pushed, groups_kept, groups_pushed, to_the_end, all_pushed, update_stands, locked_stands, drop_pushed}

@@ -5,3 +5,4 @@ pub mod Verbs
 pub mod Statements
 pub mod Told
 pub mod Script
+pub mod GoodLines

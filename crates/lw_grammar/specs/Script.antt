@@ -1,16 +1,18 @@
 -- The grammar of scripts (docs/FORMATS.md has it with an example): the rule of a line, by what the
 -- lines above it tell, and the outcome of lines read from the first to the last, which is an input, or the first bad line with
 -- its first reason.
-use Rattle.std.specs.Prelude.{◌≡◌, ℕ, ◌+◌, ◌-◌, ◌*◌, ◌≤◌, ◌==◌, Bool, true, false, not, ◌&&◌, ◌||◌, nat_le, nat_lt, min, if◌then◌else◌, List, [], ◌∷◌, length, map, ℤ, unsigned_abs, Option, Some, None, is_none, Result, Ok, Err, ok_or, bytes_eq, ◌⊎◌, All}
+use Rattle.std.specs.Prelude.{◌≡◌, ℕ, ◌+◌, ◌-◌, ◌*◌, ◌≤◌, ◌==◌, Bool, true, false, not, ◌&&◌, ◌||◌, nat_le, nat_lt, min, if◌then◌else◌, List, [], ◌∷◌, length, map, ℤ, unsigned_abs, Option, Some, None, option_map, is_none, Result, Ok, Err, ok_or, bytes_eq, ◌⊎◌, All}
 use Rattle.std.specs.List.{list_any, list_all, range_with_len}
 use Rattle.lw_planes.specs.Row.{row_bit}
+use Rattle.lw_area.specs.declared.point.Point.{Point}
+use Rattle.lw_area.specs.Polygons.{is_in_range}
 use Rattle.lw_grammar.specs.declared.form.Form.{Form}
 use Rattle.lw_grammar.specs.declared.form.Form.TheVariants.{Plain, Ordered, Audited}
 use Rattle.lw_grammar.specs.declared.reason.Reason.{Reason}
 use Rattle.lw_grammar.specs.declared.reason.Reason.TheVariants.{LineTooLong, BadByte, UnknownWord, Misplaced, Form as FormReason, Range, NoName, DoubleName, Group, TooMany, NoHook, HookUsed, Padding, Missing}
 use Rattle.lw_grammar.specs.declared.verb.Verb.{Verb}
-use Rattle.lw_grammar.specs.declared.verb.Verb.TheVariants.{Part, Number}
-use Rattle.lw_grammar.specs.declared.verb.PartVerb.TheVariants.{Layers as LayersVerb, Screen as ScreenVerb, Glyph as GlyphVerb, Bitmap as BitmapVerb, Task as TaskVerb, Order as OrderVerb, Report as ReportVerb}
+use Rattle.lw_grammar.specs.declared.verb.Verb.TheVariants.{Part, Number, Area as AreaVerb, AreaPattern as AreaPatternVerb}
+use Rattle.lw_grammar.specs.declared.verb.PartVerb.TheVariants.{Layers as LayersVerb, Screen as ScreenVerb, Glyph as GlyphVerb, Bitmap as BitmapVerb, Pattern as PatternVerb, Task as TaskVerb, Order as OrderVerb, Report as ReportVerb}
 use Rattle.lw_grammar.specs.declared.verb.NumberVerb.TheVariants.{Hook as HookVerb}
 use Rattle.lw_calls.specs.declared.limits.Limits.{Limits}
 use Rattle.lw_calls.specs.Limits.{limits_of, may_replace_hooks, task_limit, bitmap_limit}
@@ -20,8 +22,8 @@ use Rattle.lw_grammar.specs.Lines.{lines}
 use Rattle.lw_grammar.specs.Demands.{◌>>=◌, demand}
 use Rattle.lw_grammar.specs.Tokens.{tokens, token_of}
 use Rattle.lw_grammar.specs.Verbs.{verb_of}
-use Rattle.lw_grammar.specs.Statements.{Act, PutAct, Statement, GlyphLine, BitmapLine, RowLine, TaskLine, EndLine, CallLine, LockLine, UnlockLine, HoldLine, ReleaseLine, row_line, numbers_line, statement_by, is_line_in_range}
-use Rattle.lw_grammar.specs.Told.{Section, ScreenIsDue, AssetsAreDue, CallsAreDue, TasksAreDue, NumbersAreDue, NothingIsDue, OpenGroup, Locked, Updating, Held, Told, spelled_call, hook_on, told_with, told, plan_of}
+use Rattle.lw_grammar.specs.Statements.{Act, PutAct, Statement, GlyphLine, BitmapLine, RowLine, PatternLine, TaskLine, EndLine, CallLine, LockLine, UnlockLine, HoldLine, ReleaseLine, Line, StatementLine, AreaLine, row_line, numbers_line, line_by, is_line_in_range}
+use Rattle.lw_grammar.specs.Told.{Section, ScreenIsDue, AssetsAreDue, CallsAreDue, TasksAreDue, NumbersAreDue, NothingIsDue, OpenGroup, Locked, Updating, Held, Told, spelled_call, hook_on, told_with, told, stands_for, told_all, plan_of}
 
 -- What a script is read with: how many hooks are handed in, and what input it stands in.
 pub record Setting : Type 0 where
@@ -82,10 +84,13 @@ is_audited Ordered = false
 is_audited Audited = true
 
 -- Some line begins with this verb, where the lines above tell this version: `layers` is known as a script's first line and in
--- version 2, `hook` where hooks may be replaced.
+-- version 2, `hook` where hooks may be replaced, and patterns and areas in version 2.
 abbrev pub is_known_in : ℕ → Verb → Bool
 is_known_in version (Part LayersVerb) = not (version == 1)
+is_known_in version (Part PatternVerb) = version == 2
 is_known_in version (Number HookVerb) = may_replace_hooks version
+is_known_in version AreaVerb = version == 2
+is_known_in version AreaPatternVerb = version == 2
 is_known_in version verb = true
 
 -- Lines with this verb belong in this section of this input, where the lines above tell this version.
@@ -94,6 +99,7 @@ belongs_in form version s (Part LayersVerb) = is_screen_due s && (version == 0)
 belongs_in form version s (Part ScreenVerb) = is_screen_due s
 belongs_in form version s (Part GlyphVerb) = are_assets_due s
 belongs_in form version s (Part BitmapVerb) = are_assets_due s
+belongs_in form version s (Part PatternVerb) = are_assets_due s
 belongs_in form version s (Part TaskVerb) = are_assets_due s || are_tasks_due s
 belongs_in form version s (Part OrderVerb) = are_tasks_due s && is_ordered form
 belongs_in form version s (Part ReportVerb) = are_tasks_due s && is_audited form
@@ -114,10 +120,16 @@ abbrev pub lacks_name : List (List ℕ) → Statement → Bool
 lacks_name names (CallLine layers (PutAct bm area)) = not (list_any (bytes_eq bm) names)
 lacks_name names statement = false
 
--- the line gives a bitmap, a task or a code that a line above gave
+-- there is a pattern's name, and it isn't one of these
+abbrev pub lacks_pattern : List (List ℕ) → Option (List ℕ) → Bool
+lacks_pattern names None = false
+lacks_pattern names (Some name) = not (list_any (bytes_eq name) names)
+
+-- the line gives a bitmap, a pattern, a task or a code that a line above gave
 abbrev pub gives_again : Told → Statement → Bool
 gives_again t (GlyphLine code rows) = t.given code
 gives_again t (BitmapLine name w h d) = list_any (bytes_eq name) t.bitmap_names
+gives_again t (PatternLine name words) = list_any (bytes_eq name) t.pattern_names
 gives_again t (TaskLine name) = list_any (bytes_eq name) t.tasks
 gives_again t statement = false
 
@@ -172,14 +184,28 @@ fits_group group has_calls (UnlockLine name) = is_lock_on name group && has_call
 fits_group group has_calls ReleaseLine = is_hold group && has_calls
 fits_group group has_calls statement = true
 
+-- This group, or none, allows an area on the layer, whether it has a fill or not.
+abbrev pub allows_area : Option OpenGroup → List ℕ → Bool
+allows_area None l = true
+allows_area (Some (Locked m)) l = bytes_eq m l
+allows_area (Some (Updating m)) l = bytes_eq m l
+allows_area (Some Held) l = false
+
+-- how many patterns there are at most
+abbrev pub pattern_limit : ℕ
+pattern_limit = 16
+
 -- how many lines ask for a super-bitmap layer at most
 abbrev pub super_limit : ℕ
 super_limit = 16
 
--- lines tell of no more tasks, bitmaps, layer names, super-bitmap layers and calls of a task than may be by a version's limits
+-- lines tell of no more tasks, bitmaps, patterns, layer names, super-bitmap layers and calls of a task than may be by a version's
+-- limits
 abbrev pub are_few : Limits → Told → Bool
 are_few limits t =
-    ((nat_le (length t.tasks) task_limit && nat_le (length t.bitmap_names) bitmap_limit) && nat_le (length t.names) limits.names)
+    ((nat_le (length t.tasks) task_limit
+    && (nat_le (length t.bitmap_names) bitmap_limit && nat_le (length t.pattern_names) pattern_limit))
+    && nat_le (length t.names) limits.names)
     && (nat_le t.supers super_limit && nat_le t.so_far limits.calls)
 
 -- there is a hook's number, and it isn't below the number of hooks
@@ -205,23 +231,26 @@ words_read line = do
   _ ← demand (list_all is_printable line) BadByte
   tokens line
 
--- The statement of a line of these words that begins with a verb, in this version and section of this input, or its first
--- reason.
-abbrev pub verb_read : Form → ℕ → Section → List (List ℕ) → Result Statement Reason
+-- What a line of these words says that begins with a verb, in this version and section of this input, or its first reason.
+abbrev pub verb_read : Form → ℕ → Section → List (List ℕ) → Result Line Reason
 verb_read form version section ws = do
   verb ← ok_or (verb_on ws) UnknownWord
   _ ← demand (is_known_in version verb) UnknownWord
   _ ← demand (belongs_in form version section verb) Misplaced
-  ok_or (statement_by verb (map token_of (after_verb ws))) FormReason
+  ok_or (line_by verb (map token_of (after_verb ws))) FormReason
 
--- The statement of a line of these words: where so many rows of a bitmap of this width are due, a row; where numbers are due,
--- numbers; and else a line with a verb.
-abbrev pub statement_read : Form → ℕ → Section → ℕ → ℕ → List (List ℕ) → Result Statement Reason
-statement_read form version section due width ws =
+-- a statement that is found is what its line says
+abbrev pub stated : Option Statement → Option Line
+stated o = option_map (λ f. StatementLine f) o
+
+-- What a line of these words says: where so many rows of a bitmap of this width are due, a row; where numbers are due, numbers;
+-- and else a line with a verb.
+abbrev pub line_made : Form → ℕ → Section → ℕ → ℕ → List (List ℕ) → Result Line Reason
+line_made form version section due width ws =
     if not (due == 0)
-    then ok_or (row_line width (map token_of ws)) FormReason
+    then ok_or (stated (row_line width (map token_of ws))) FormReason
     else (if are_numbers_due section
-    then ok_or (numbers_line (map token_of ws)) FormReason
+    then ok_or (stated (numbers_line (map token_of ws))) FormReason
     else verb_read form version section ws)
 
 -- The first reason for which a line with this statement is bad, if it is bad.
@@ -236,24 +265,44 @@ statement_tested s t statement = do
   _ ← demand (not (is_used t.used (hook_on statement))) HookUsed
   demand (not (has_padding t.row_width statement)) Padding
 
--- The statement of a line of these words, below lines that tell this, or its first reason.
-abbrev pub statement_of : Setting → Told → List (List ℕ) → Result Statement Reason
-statement_of s t ws = do
-  statement ← statement_read s.form t.version t.section t.rows_due t.row_width ws
-  _ ← statement_tested s t statement
-  Ok statement
+-- The same of a line with an area on this layer, with this pattern and these points. Of what it stands for no reason is asked,
+-- but that with all of it there are few of everything.
+abbrev pub area_tested : Told → List ℕ → Option (List ℕ) → List Point → Result (Unit {0}) Reason
+area_tested t layer pattern points = do
+  _ ← demand (list_all is_in_range points) Range
+  _ ← demand (not (lacks_pattern t.pattern_names pattern)) NoName
+  _ ← demand (allows_area t.group layer) Group
+  demand (are_few (limits_of t.version) (told_all (stands_for t (AreaLine layer pattern points)) t)) TooMany
 
--- the statement of a line that isn't skipped, below lines that tell this, or its first reason
-abbrev pub line_read : Setting → Told → List ℕ → Result Statement Reason
-line_read s t line = words_read line >>= statement_of s t
+-- The same of what any line says.
+abbrev pub line_tested : Setting → Told → Line → Result (Unit {0}) Reason
+line_tested s t (StatementLine f) = statement_tested s t f
+line_tested s t (AreaLine layer pattern points) = area_tested t layer pattern points
 
--- the statements of lines with that of a further line, unless it is skipped; or its first reason
+-- What a line of these words says, below lines that tell this, or its first reason.
+abbrev pub line_of_words : Setting → Told → List (List ℕ) → Result Line Reason
+line_of_words s t ws = do
+  line ← line_made s.form t.version t.section t.rows_due t.row_width ws
+  _ ← line_tested s t line
+  Ok line
+
+-- what a line says that isn't skipped, below lines that tell this, or its first reason
+abbrev pub line_read : Setting → Told → List ℕ → Result Line Reason
+line_read s t bytes = words_read bytes >>= line_of_words s t
+
+-- the statements with further ones below them, the first one first
+abbrev pub added : List Statement → List Statement → List Statement
+added [] above = above
+added (f ∷ fs) above = added fs (f ∷ above)
+
+-- the statements of lines with those that a further line stands for, unless it is skipped; or its first reason
 abbrev pub statements_with : Setting → List Statement → List ℕ → Result (List Statement) Reason
 statements_with s above line =
-    if is_skipped line then Ok above else (line_read s (told above) line >>= (λ statement. Ok (statement ∷ above)))
+    if is_skipped line then Ok above
+    else (line_read s (told above) line >>= (λ l. Ok (added (stands_for (told above) l) above)))
 
--- How far lines were read: the statements of those that aren't skipped, the nearest first; the number of the next line, counted
--- from 1; and how many bytes the lines have, each with a line feed.
+-- How far lines were read: the statements that those stand for that aren't skipped, the nearest first; the number of the next
+-- line, counted from 1; and how many bytes the lines have, each with a line feed.
 pub record Reached : Type 0 where
   pub statements : List Statement
   pub number : ℕ
@@ -341,12 +390,3 @@ pub record IsRunnableInput (s : Setting) (input : ScriptInput) : Type 0 where
 abbrev pub SpelledInputsAreRunnable : Type 0
 SpelledInputsAreRunnable =
     (s : Setting) (bytes : List ℕ) (input : ScriptInput) → SpellsInput s bytes input → IsRunnableInput s input
-
--- The statements are those of lines that were good where they stood.
-pub record IsGoodLine (s : Setting) (above : List Statement) (statement : Statement) : Type 0 where
-  pub line : List ℕ
-  pub read : line_read s (told above) line ≡ Ok statement
-
-abbrev pub AreGoodLines : Setting → List Statement → Type 0
-AreGoodLines s [] = Unit {0}
-AreGoodLines s (statement ∷ above) = IsGoodLine s above statement × AreGoodLines s above

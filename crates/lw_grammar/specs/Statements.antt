@@ -1,7 +1,8 @@
 -- The statements of a script's lines.
-use Rattle.std.specs.Prelude.{ℕ, ◌+◌, ◌%◌, ◌^◌, ◌==◌, Bool, true, false, not, ◌&&◌, nat_le, if◌then◌else◌, List, [], ◌∷◌, length, ℤ, pos, Option, Some, None, option_map, option_and_then, codes, bytes_eq}
+use Rattle.std.specs.Prelude.{ℕ, ◌+◌, ◌*◌, ◌%◌, ◌^◌, ◌==◌, Bool, true, false, not, ◌&&◌, ◌||◌, nat_le, if◌then◌else◌, List, [], ◌∷◌, length, ℤ, pos, Option, Some, None, option_map, option_and_then, codes, bytes_eq}
 use Rattle.std.specs.List.{list_all}
 use Rattle.lw_region.specs.Rectangle.{Rectangle, within}
+use Rattle.lw_area.specs.declared.point.Point.{Point}
 use Rattle.lw_planes.specs.Bitmap.{row_bytes}
 use Rattle.lw_calls.specs.declared.operation.RectOp.{RectOp}
 use Rattle.lw_calls.specs.declared.operation.PairOp.{PairOp}
@@ -11,14 +12,14 @@ use Rattle.lw_calls.specs.declared.make.Place.{Place}
 use Rattle.lw_calls.specs.declared.make.Place.TheVariants.{Front, Behind}
 use Rattle.lw_calls.specs.declared.area.Area.{Area}
 use Rattle.lw_grammar.specs.declared.verb.PartVerb.{PartVerb}
-use Rattle.lw_grammar.specs.declared.verb.PartVerb.TheVariants.{Layers as LayersVerb, Screen as ScreenVerb, Glyph as GlyphVerb, Bitmap as BitmapVerb, Task as TaskVerb, End as EndVerb, Order as OrderVerb, Report as ReportVerb, Lock as LockVerb, Unlock as UnlockVerb, Hold as HoldVerb, Release as ReleaseVerb}
+use Rattle.lw_grammar.specs.declared.verb.PartVerb.TheVariants.{Layers as LayersVerb, Screen as ScreenVerb, Glyph as GlyphVerb, Bitmap as BitmapVerb, Pattern as PatternVerb, Task as TaskVerb, End as EndVerb, Order as OrderVerb, Report as ReportVerb, Lock as LockVerb, Unlock as UnlockVerb, Hold as HoldVerb, Release as ReleaseVerb}
 use Rattle.lw_grammar.specs.declared.verb.BareVerb.{BareVerb}
 use Rattle.lw_grammar.specs.declared.verb.NumberVerb.{NumberVerb}
 use Rattle.lw_grammar.specs.declared.verb.NumberVerb.TheVariants.{APen as APenVerb, BPen as BPenVerb, Mode as ModeVerb, Mask as MaskVerb, SetRast as SetRastVerb, Clip as ClipVerb, Hook as HookVerb}
 use Rattle.lw_grammar.specs.declared.verb.PairVerb.{PairVerb}
 use Rattle.lw_grammar.specs.declared.verb.TextVerb.{TextVerb}
 use Rattle.lw_grammar.specs.declared.verb.Verb.{Verb}
-use Rattle.lw_grammar.specs.declared.verb.Verb.TheVariants.{Part, Bare, Number, Pair, Text, Rect, Region, ClearRegion, Create, Open, InFront, Box, Which, Fill, ScrollRaster, Put, Blit, EndRefresh}
+use Rattle.lw_grammar.specs.declared.verb.Verb.TheVariants.{Part, Bare, Number, Pair, Text, Rect, Region, ClearRegion, Create, Open, InFront, Box, Which, Fill, ScrollRaster, Put, Blit, EndRefresh, Area as AreaVerb, AreaPattern as AreaPatternVerb}
 use Rattle.lw_calls.specs.Limits.{limits_of, rect_fits, coordinates_fit, is_extent}
 use Rattle.lw_grammar.specs.Tokens.{Token, NameToken, NumberToken, TextToken, bytes_in}
 
@@ -65,15 +66,17 @@ layers_of InFrontAct = 2
 layers_of (BlitAct b) = 2
 layers_of act = 1
 
--- What a line says, if it isn't skipped: that the script has version 2; the screen; a glyph by its code and its rows; a bitmap,
--- whose rows then follow; a row of a bitmap; a task's beginning and its end; the beginnings of an order and of a report;
--- numbers of an order; a call with the layers that it names from left to right; and the beginnings and ends of groups.
+-- What a line says that stands for itself: that the script has version 2; the screen; a glyph by its code and its rows; a
+-- bitmap, whose rows then follow; a row of a bitmap; an area pattern by its name and its words; a task's beginning and its end;
+-- the beginnings of an order and of a report; numbers of an order; a call with the layers that it names from left to right; and
+-- the beginnings and ends of groups.
 pub data Statement : Type 0 where
   LayersLine : Statement
   ScreenLine : ℤ → ℤ → ℤ → Statement
   GlyphLine : ℕ → List ℕ → Statement
   BitmapLine : List ℕ → ℤ → ℤ → ℤ → Statement
   RowLine : List ℕ → Statement
+  PatternLine : List ℕ → List ℕ → Statement
   TaskLine : List ℕ → Statement
   EndLine : Statement
   OrderLine : Statement
@@ -84,6 +87,12 @@ pub data Statement : Type 0 where
   UnlockLine : List ℕ → Statement
   HoldLine : Statement
   ReleaseLine : Statement
+
+-- What a line says, if it isn't skipped: a statement; or an area on a layer, by the name of its pattern, or with none, and by
+-- its points, which stands for several statements.
+pub data Line : Type 0 where
+  StatementLine : Statement → Line
+  AreaLine : List ℕ → Option (List ℕ) → List Point → Line
 
 -- Four numbers of a line: the bounds of a rectangle; or a place, a width as `max_x` and a height as `max_y`.
 abbrev pub four : ℤ → ℤ → ℤ → ℤ → Rectangle
@@ -129,6 +138,27 @@ abbrev pub row_line : ℕ → List Token → Option Statement
 row_line width (t ∷ []) = option_map (λ bytes. RowLine bytes) (bytes_in (row_bytes width) t)
 row_line width _ = None
 
+-- a word of a pattern, which is two bytes
+abbrev pub pattern_word : Option (List ℕ) → Option ℕ
+pattern_word (Some (a ∷ b ∷ [])) = Some (a * 256 + b)
+pattern_word _ = None
+
+-- the words of a pattern, of four lower-case hexadecimal digits each
+abbrev pub pattern_words : List Token → Option (List ℕ)
+pattern_words [] = Some []
+pattern_words (t ∷ ts) =
+    option_and_then (λ w. option_map (λ ws. w ∷ ws) (pattern_words ts)) (pattern_word (bytes_in 2 t))
+
+-- so many words make a pattern
+abbrev pub is_pattern_count : ℕ → Bool
+is_pattern_count n = (n == 1) || ((n == 2) || ((n == 4) || ((n == 8) || (n == 16))))
+
+-- pattern PN HHHH ..
+abbrev pub pattern_line : List Token → Option Statement
+pattern_line (NameToken n ∷ ts) =
+    if is_pattern_count (length ts) then option_map (λ ws. PatternLine n ws) (pattern_words ts) else None
+pattern_line _ = None
+
 -- the numbers of words that are all numbers
 abbrev pub all_numbers : List Token → Option (List ℤ)
 all_numbers [] = Some []
@@ -159,6 +189,7 @@ part_line LayersVerb ts = layers_line ts
 part_line ScreenVerb ts = screen_line ts
 part_line GlyphVerb ts = glyph_line ts
 part_line BitmapVerb ts = bitmap_line ts
+part_line PatternVerb ts = pattern_line ts
 part_line TaskVerb ts = name_line (λ n. TaskLine n) ts
 part_line EndVerb ts = alone_line EndLine ts
 part_line OrderVerb ts = alone_line OrderLine ts
@@ -383,7 +414,35 @@ new_layer_line behind (NameToken l ∷ NameToken k ∷ NameToken p ∷ ts) =
     (four_numbers ts)
 new_layer_line behind _ = None
 
--- The statement of a line with this verb, if the words after it make one.
+-- a point by its column and its row
+abbrev pub point : ℤ → ℤ → Point
+point x y = record { x = x; y = y }
+
+-- points, where all words are numbers, two for each point
+abbrev pub points_of : List Token → Option (List Point)
+points_of [] = Some []
+points_of (NumberToken a x ∷ NumberToken b y ∷ ts) = option_map (λ ps. point x y ∷ ps) (points_of ts)
+points_of _ = None
+
+-- so many points make an area
+abbrev pub is_point_count : ℕ → Bool
+is_point_count n = nat_le 3 n && nat_le n 32
+
+-- the points of an area
+abbrev pub area_points : List Token → Option (List Point)
+area_points ts = option_and_then (λ ps. if is_point_count (length ps) then Some ps else None) (points_of ts)
+
+-- area L X Y X Y X Y ..
+abbrev pub area_line : List Token → Option Line
+area_line (NameToken l ∷ ts) = option_map (λ ps. AreaLine l None ps) (area_points ts)
+area_line _ = None
+
+-- areapat L PN X Y X Y X Y ..
+abbrev pub area_pattern_line : List Token → Option Line
+area_pattern_line (NameToken l ∷ NameToken n ∷ ts) = option_map (λ ps. AreaLine l (Some n) ps) (area_points ts)
+area_pattern_line _ = None
+
+-- The statement of a line with this verb, if the words after it make one. An area is none.
 abbrev pub statement_by : Verb → List Token → Option Statement
 statement_by (Part verb) ts = part_line verb ts
 statement_by (Bare verb) ts = layer_line verb ts
@@ -403,6 +462,14 @@ statement_by ScrollRaster ts = scrollraster_line ts
 statement_by Put ts = put_line ts
 statement_by Blit ts = blit_line ts
 statement_by EndRefresh ts = endrefresh_line ts
+statement_by AreaVerb ts = None
+statement_by AreaPatternVerb ts = None
+
+-- What a line with this verb says, if the words after it make a line.
+abbrev pub line_by : Verb → List Token → Option Line
+line_by AreaVerb ts = area_line ts
+line_by AreaPatternVerb ts = area_pattern_line ts
+line_by verb ts = option_map (λ f. StatementLine f) (statement_by verb ts)
 
 -- a hook's number has 32 bits
 abbrev pub greatest_hook : ℕ

@@ -2,7 +2,9 @@
 -- it. Skipped lines and those after a line `report` tell nothing. The lines may be taken to be good, since only a script's
 -- first bad line counts.
 use Rattle.std.specs.Prelude.{ℕ, ◌+◌, ◌-◌, ◌*◌, ◌==◌, Bool, false, ◌||◌, if◌then◌else◌, List, [], ◌∷◌, ◌++◌, map, length, ℤ, pos, ◌+ℤ◌, ◌-ℤ◌, unsigned_abs, Option, Some, None, option_map, slice_index, bytes_eq, replicate}
-use Rattle.std.specs.List.{list_any, position_or_len, range_with_len}
+use Rattle.std.specs.List.{list_any, position_or_len, range_with_len, slice_index_or}
+use Rattle.lw_region.specs.Rectangle.{Rectangle}
+use Rattle.lw_area.specs.Areas.{area_rectangles}
 use Rattle.lw_planes.specs.Bitmap.{Bitmap}
 use Rattle.lw_planes.specs.Storage.{stored}
 use Rattle.lw_calls.specs.declared.make.Make.{Make}
@@ -21,11 +23,11 @@ use Rattle.lw_grammar.specs.declared.verb.PairVerb.{PairVerb}
 use Rattle.lw_grammar.specs.declared.verb.PairVerb.TheVariants.{Move as MoveVerb, Size as SizeVerb, At as AtVerb, Write as WriteVerb, Read as ReadVerb, Draw as DrawVerb, Scroll as ScrollVerb}
 use Rattle.lw_grammar.specs.declared.verb.TextVerb.{TextVerb}
 use Rattle.lw_grammar.specs.declared.verb.TextVerb.TheVariants.{Text as TextOf, Title as TitleVerb}
-use Rattle.lw_grammar.specs.Statements.{NewLayer, Act, BareAct, NumberAct, PairAct, TextAct, RegRectAct, RegPairAct, RegClearAct, CreateAct, OpenAct, InFrontAct, BoxAct, WhichAct, FillAct, ScrollRasterAct, PutAct, BlitAct, EndRefreshAct, Statement, LayersLine, ScreenLine, GlyphLine, BitmapLine, RowLine, TaskLine, EndLine, OrderLine, NumbersLine, ReportLine, CallLine, LockLine, UnlockLine, HoldLine, ReleaseLine, version_at_screen}
+use Rattle.lw_grammar.specs.Statements.{NewLayer, Act, BareAct, NumberAct, PairAct, TextAct, RegRectAct, RegPairAct, RegClearAct, CreateAct, OpenAct, InFrontAct, BoxAct, WhichAct, FillAct, ScrollRasterAct, PutAct, BlitAct, EndRefreshAct, Statement, LayersLine, ScreenLine, GlyphLine, BitmapLine, RowLine, PatternLine, TaskLine, EndLine, OrderLine, NumbersLine, ReportLine, CallLine, LockLine, UnlockLine, HoldLine, ReleaseLine, Line, StatementLine, AreaLine, version_at_screen}
 
--- The parts of a script, by what is due in them: the screen, before which the version may stand; glyphs, bitmaps and the first
--- task; in a task calls, groups or its end; after a task a further one, an order or a report; numbers of an order; and nothing
--- more, after a line `report`.
+-- The parts of a script, by what is due in them: the screen, before which the version may stand; glyphs, bitmaps, patterns and
+-- the first task; in a task calls, groups or its end; after a task a further one, an order or a report; numbers of an order;
+-- and nothing more, after a line `report`.
 pub data Section : Type 0 where
   ScreenIsDue : Section
   AssetsAreDue : Section
@@ -42,10 +44,10 @@ pub data OpenGroup : Type 0 where
 
 -- What lines tell: the script's version, or 0 where there is no line yet; the section in which the next line stands; the
 -- screen's sizes; which codes have a glyph line, and the rows of each code's glyph; the bitmaps' names; the bitmaps, where
--- further rows stand after those of the nearest one; the width of the nearest one, and how many of its rows are due; the names
--- of the tasks, and those of the layers in the order of their first appearance; how many lines ask for a super-bitmap layer;
--- which hooks are named; the group that is open, and how many calls its task had when it began; how many calls the nearest task
--- has; each task's calls and groups; and the order.
+-- further rows stand after those of the nearest one; the width of the nearest one, and how many of its rows are due; the
+-- patterns' names, and the words of each; the names of the tasks, and those of the layers in the order of their first
+-- appearance; how many lines ask for a super-bitmap layer; which hooks are named; the group that is open, and how many calls its
+-- task had when it began; how many calls the nearest task has; each task's calls and groups; and the order.
 pub record Told : Type 0 where
   pub version : ℕ
   pub section : Section
@@ -58,6 +60,8 @@ pub record Told : Type 0 where
   pub bitmaps : List ℕ → List Bitmap
   pub row_width : ℕ
   pub rows_due : ℕ
+  pub pattern_names : List (List ℕ)
+  pub patterns : List (List ℕ)
   pub tasks : List (List ℕ)
   pub names : List (List ℕ)
   pub supers : ℕ
@@ -84,6 +88,8 @@ nothing_told =
       bitmaps = λ rows. [];
       row_width = 0;
       rows_due = 0;
+      pattern_names = [];
+      patterns = [];
       tasks = [];
       names = [];
       supers = 0;
@@ -258,6 +264,8 @@ told_with (BitmapLine name w h d) t =
       rows_due = unsigned_abs d * unsigned_abs h;
     }
 told_with (RowLine bytes) t = record t { bitmaps = λ rows. t.bitmaps (bytes ++ rows); rows_due = t.rows_due - 1 }
+told_with (PatternLine name words) t =
+    record t { pattern_names = t.pattern_names ++ name ∷ []; patterns = t.patterns ++ words ∷ [] }
 told_with (TaskLine name) t =
     record t {
       section = CallsAreDue;
@@ -295,6 +303,33 @@ told_with ReleaseLine t = record t { group = None; groups = onto_last (group_fro
 abbrev pub told : List Statement → Told
 told [] = nothing_told
 told (statement ∷ above) = told_with statement (told above)
+
+-- the words of an area's pattern; an area with none has the one word of sixteen ones
+abbrev pub area_words : Told → Option (List ℕ) → List ℕ
+area_words t None = 65535 ∷ []
+area_words t (Some name) = slice_index_or t.patterns (place_among t.pattern_names name) []
+
+-- the fills of a layer, one for each rectangle
+abbrev pub fill_lines : List ℕ → List Rectangle → List Statement
+fill_lines layer rects = map (λ r. CallLine (layer ∷ []) (FillAct r)) rects
+
+-- The statements that an area of these rectangles stands for: its fills, which in no group are a lock group of their own. Without
+-- a rectangle there is no group either.
+abbrev pub area_lines : Option OpenGroup → List ℕ → List Rectangle → List Statement
+area_lines group layer [] = []
+area_lines None layer (r ∷ rs) = LockLine layer ∷ fill_lines layer (r ∷ rs) ++ UnlockLine layer ∷ []
+area_lines (Some group) layer (r ∷ rs) = fill_lines layer (r ∷ rs)
+
+-- The statements that a line stands for below lines that tell this, the first one first. It tells what these tell, one after
+-- another.
+abbrev pub stands_for : Told → Line → List Statement
+stands_for t (StatementLine f) = f ∷ []
+stands_for t (AreaLine layer pattern points) = area_lines t.group layer (area_rectangles points (area_words t pattern))
+
+-- what lines tell with further statements below them, the first one first
+abbrev pub told_all : List Statement → Told → Told
+told_all [] t = t
+told_all (f ∷ fs) t = told_all fs (told_with f t)
 
 -- The plan that the lines of a whole script tell, where so many hooks are handed in.
 abbrev pub plan_of : ℕ → Told → Plan

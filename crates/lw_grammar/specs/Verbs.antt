@@ -5,7 +5,7 @@ use Rattle.lw_calls.specs.declared.operation.RectOp.TheVariants.{Or as OrR, And 
 use Rattle.lw_calls.specs.declared.operation.PairOp.{PairOp}
 use Rattle.lw_calls.specs.declared.operation.PairOp.TheVariants.{Or as OrP, And as AndP, Xor as XorP}
 use Rattle.lw_grammar.specs.declared.verb.PartVerb.{PartVerb}
-use Rattle.lw_grammar.specs.declared.verb.PartVerb.TheVariants.{Layers, Screen, Glyph, Bitmap, Task, End, Order, Report, Lock, Unlock, Hold, Release}
+use Rattle.lw_grammar.specs.declared.verb.PartVerb.TheVariants.{Layers, Screen, Glyph, Bitmap, Pattern, Task, End, Order, Report, Lock, Unlock, Hold, Release}
 use Rattle.lw_grammar.specs.declared.verb.BareVerb.{BareVerb}
 use Rattle.lw_grammar.specs.declared.verb.BareVerb.TheVariants.{Close, Front, Behind, Activate, Unclip, Refresh, GetMsg}
 use Rattle.lw_grammar.specs.declared.verb.NumberVerb.{NumberVerb}
@@ -15,7 +15,7 @@ use Rattle.lw_grammar.specs.declared.verb.PairVerb.TheVariants.{Move, Size, At, 
 use Rattle.lw_grammar.specs.declared.verb.TextVerb.{TextVerb}
 use Rattle.lw_grammar.specs.declared.verb.TextVerb.TheVariants.{Text as TextOf, Title}
 use Rattle.lw_grammar.specs.declared.verb.Verb.{Verb}
-use Rattle.lw_grammar.specs.declared.verb.Verb.TheVariants.{Part, Bare, Number, Pair, Text, Rect, Region, ClearRegion, Create, Open, InFront, Box, Which, Fill, ScrollRaster, Put, Blit, EndRefresh}
+use Rattle.lw_grammar.specs.declared.verb.Verb.TheVariants.{Part, Bare, Number, Pair, Text, Rect, Region, ClearRegion, Create, Open, InFront, Box, Which, Fill, ScrollRaster, Put, Blit, EndRefresh, Area, AreaPattern}
 
 -- the words of verbs, by their kinds
 abbrev pub part_word : PartVerb → List ℕ
@@ -23,6 +23,7 @@ part_word Layers = codes "layers"
 part_word Screen = codes "screen"
 part_word Glyph = codes "glyph"
 part_word Bitmap = codes "bitmap"
+part_word Pattern = codes "pattern"
 part_word Task = codes "task"
 part_word End = codes "end"
 part_word Order = codes "order"
@@ -94,18 +95,20 @@ verb_word ScrollRaster = codes "scrollraster"
 verb_word Put = codes "put"
 verb_word Blit = codes "blit"
 verb_word EndRefresh = codes "endrefresh"
+verb_word Area = codes "area"
+verb_word AreaPattern = codes "areapat"
 
 -- all verbs
 abbrev pub verbs : List Verb
 verbs =
-    Part Layers ∷ Part Screen ∷ Part Glyph ∷ Part Bitmap ∷ Part Task ∷ Part End ∷ Part Order ∷ Part Report ∷
+    Part Layers ∷ Part Screen ∷ Part Glyph ∷ Part Bitmap ∷ Part Pattern ∷ Part Task ∷ Part End ∷ Part Order ∷ Part Report ∷
     Part Lock ∷ Part Unlock ∷ Part Hold ∷ Part Release ∷
     Bare Close ∷ Bare Front ∷ Bare Behind ∷ Bare Activate ∷ Bare Unclip ∷ Bare Refresh ∷ Bare GetMsg ∷
     Number APen ∷ Number BPen ∷ Number Mode ∷ Number Mask ∷ Number SetRast ∷ Number Clip ∷ Number Hook ∷
     Pair Move ∷ Pair Size ∷ Pair At ∷ Pair Write ∷ Pair Read ∷ Pair Draw ∷ Pair Scroll ∷
     Text TextOf ∷ Text Title ∷
     Rect OrR ∷ Rect AndR ∷ Rect XorR ∷ Rect ClearR ∷ Region OrP ∷ Region AndP ∷ Region XorP ∷ ClearRegion ∷
-    Create ∷ Open ∷ InFront ∷ Box ∷ Which ∷ Fill ∷ ScrollRaster ∷ Put ∷ Blit ∷ EndRefresh ∷ []
+    Create ∷ Open ∷ InFront ∷ Box ∷ Which ∷ Fill ∷ ScrollRaster ∷ Put ∷ Blit ∷ EndRefresh ∷ Area ∷ AreaPattern ∷ []
 
 -- the first of these verbs that has the word, if one has
 abbrev pub verb_in : List Verb → List ℕ → Option Verb

@@ -18,14 +18,14 @@ pub enum Reason {
     Form,
     /// A number is outside its range, a glyph's code outside 0x20 to 0x7e, or a maximum below its minimum.
     Range,
-    /// No bitmap of this name stands above.
+    /// No bitmap, or no pattern, of this name stands above.
     NoName,
-    /// A bitmap or a task of this name, or a glyph of this code, stands above.
+    /// A bitmap, a pattern or a task of this name, or a glyph of this code, stands above.
     DoubleName,
     /// The line may not stand in this group, or ends none, or ends one without a call.
     Group,
-    /// A 17th task, bitmap or line that asks for a super-bitmap layer, or a layer name or a call of a task more than the version
-    /// allows.
+    /// A 17th task, bitmap, pattern or line that asks for a super-bitmap layer, or a layer name or a call of a task more than the
+    /// version allows.
     TooMany,
     /// There is no hook of this number.
     NoHook,

@@ -7,6 +7,7 @@ pub enum PartVerb {
     Screen,
     Glyph,
     Bitmap,
+    Pattern,
     Task,
     End,
     Order,
@@ -83,4 +84,8 @@ pub enum Verb {
     Put,
     Blit,
     EndRefresh,
+    /// `area`, which leaves every pixel of a polygon.
+    Area,
+    /// `areapat`, which leaves those of a pattern.
+    AreaPattern,
 }

@@ -4,6 +4,8 @@
 #[cfg(test)]
 mod answers;
 #[cfg(test)]
+mod tests_areas;
+#[cfg(test)]
 mod tests_audit;
 #[cfg(test)]
 mod tests_blocks;

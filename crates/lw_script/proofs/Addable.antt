@@ -3,12 +3,12 @@ use Rattle.std.proofs.Common.{◌≡◌, ℕ, ◌+◌, ◌<◌, ◌≤◌, ◌==
 use Rattle.std.specs.List.{list_any}
 use Rattle.lw_region.specs.Rectangle.{within}
 use Rattle.lw_planes.specs.Bitmap.{row_bytes}
-use Rattle.lw_grammar.specs.Statements.{Statement, ScreenLine, GlyphLine, BitmapLine, RowLine, TaskLine, CallLine, UnlockLine, ReleaseLine, Act, layers_of, version_at_screen, are_sizes_in_range, bitmap_size_limit, is_act_in_range}
+use Rattle.lw_grammar.specs.Statements.{Statement, ScreenLine, GlyphLine, BitmapLine, RowLine, PatternLine, TaskLine, CallLine, UnlockLine, ReleaseLine, Act, layers_of, version_at_screen, are_sizes_in_range, bitmap_size_limit, is_act_in_range}
 use Rattle.lw_grammar.specs.Told.{makes_super, told}
-use Rattle.lw_grammar.specs.Script.{is_lock_on, is_hold, super_limit}
+use Rattle.lw_grammar.specs.Script.{is_lock_on, is_hold, pattern_limit, super_limit}
+use Rattle.lw_grammar.specs.GoodLines.{IsStatementHere}
 use Rattle.lw_calls.specs.Limits.{limits_of, task_limit, bitmap_limit}
 use Rattle.lw_calls.proofs.LimitLaws.{screen_at_most, names_at_most, calls_at_most}
-use Rattle.lw_grammar.proofs.ScriptStatements.{IsStatementHere}
 use Rattle.lw_grammar.proofs.ScriptSizes.{IsStatementTested, here, tests, counted}
 use Rattle.lw_words.specs.Cuts.{targets}
 use Rattle.lw_words.proofs.Targets.{length_targets}
@@ -72,6 +72,10 @@ code_ranged r code rows c =
 
 pub rows_8 : (r : Reader) (code : ℕ) (rows : List ℕ) → CanAdd r (GlyphLine code rows) → length rows ≡ 8
 rows_8 r code rows c = (here_of r (GlyphLine code rows) c).2
+
+-- a pattern
+pub pattern_new : (r : Reader) (name words : List ℕ) → CanAdd r (PatternLine name words) → list_any (bytes_eq name) (targets r.assets.pattern_names.keys) ≡ false
+pattern_new r name words c = rw (c.2.assets.pattern_names) (tests_of r (PatternLine name words) c).new
 
 -- a row
 pub row_due : (r : Reader) (bytes : List ℕ) → CanAdd r (RowLine bytes) → 0 < r.assets.due
@@ -139,7 +143,7 @@ pub call_supers : (r : Reader) (layers : List (List ℕ)) (act : Act) → CanAdd
 call_supers r layers act c =
     let f = CallLine layers act in
     let limits = limits_of (told c.1).version in
-    let halves = and_parts ((nat_le (length (told (f ∷ c.1)).tasks) task_limit && nat_le (length (told (f ∷ c.1)).bitmap_names) bitmap_limit) && nat_le (length (told (f ∷ c.1)).names) limits.names) _ (tests_of r f c).few in
+    let halves = and_parts ((nat_le (length (told (f ∷ c.1)).tasks) task_limit && (nat_le (length (told (f ∷ c.1)).bitmap_names) bitmap_limit && nat_le (length (told (f ∷ c.1)).pattern_names) pattern_limit)) && nat_le (length (told (f ∷ c.1)).names) limits.names) _ (tests_of r f c).few in
     let last = and_parts (nat_le (told (f ∷ c.1)).supers super_limit) _ halves.1 in
     let few : cond (makes_super f) 1 0 + (told c.1).supers ≤ 16 = leb-true _ _ last.0 in
     let same = c.2.tasks.supers in

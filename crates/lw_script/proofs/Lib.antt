@@ -1,4 +1,7 @@
 mod Addable
+mod AreaCounts
+mod AreasAdded
+mod AreasFound
 mod AssetsAdded
 mod Begun
 mod CallLines
@@ -13,6 +16,7 @@ pub mod OrderNumbers
 pub mod OrderSections
 mod Outcomes
 mod Passing
+mod PatternLists
 mod Places
 mod ReadPlans
 mod Rows

@@ -1,18 +1,71 @@
 -- Reading a line by what the reader knows gives what the grammar gives below the lines that it has read.
-use Rattle.std.proofs.Common.{◌≡◌, ℕ, ◌+◌, Bool, not, cond, List, [], ◌∷◌, ◌++◌, ℤ, unsigned_abs, Option, Some, None, Result, Ok, Err, refl, ap, subst, ◌∙◌}
+use Rattle.std.proofs.Common.{◌≡◌, ℕ, ◌+◌, Bool, not, cond, List, [], ◌∷◌, ◌++◌, ℤ, unsigned_abs, Option, Some, None, Result, Ok, Err, refl, sym, ap, subst, ◌∙◌}
+use Rattle.std.specs.List.{list_all}
+use Rattle.lw_area.specs.declared.point.Point.{Point}
+use Rattle.lw_area.specs.Polygons.{is_in_range}
 use Rattle.lw_calls.specs.Limits.{limits_of}
-use Rattle.lw_grammar.specs.Told.{and_name, and_names, makes_super, hook_on, told_with, told}
-use Rattle.lw_grammar.specs.Script.{Setting, lacks_name, gives_again, are_few, is_no_hook, is_used, has_padding, words_read, statement_read, statement_tested, line_read}
+use Rattle.lw_grammar.specs.Told.{Told, and_name, and_names, makes_super, hook_on, area_words, area_lines, stands_for, told_with, told, told_all}
+use Rattle.lw_grammar.specs.Script.{Setting, lacks_name, lacks_pattern, gives_again, allows_area, are_few, is_no_hook, is_used, has_padding, words_read, line_made, statement_tested, area_tested, line_tested, line_read}
 use Rattle.lw_grammar.specs.declared.reason.Reason.{Reason}
 use Rattle.lw_grammar.specs.declared.reason.Reason.TheVariants.{Range, NoName, DoubleName, Group, TooMany, NoHook, HookUsed, Padding}
 use Rattle.lw_grammar.specs.Demands.{◌>>=◌, demand}
-use Rattle.lw_grammar.specs.Statements.{Statement, GlyphLine, BitmapLine, TaskLine, CallLine, LockLine, UnlockLine, is_line_in_range}
+use Rattle.lw_grammar.specs.Statements.{Statement, GlyphLine, BitmapLine, PatternLine, TaskLine, CallLine, LockLine, UnlockLine, Line, StatementLine, AreaLine, is_line_in_range}
+use Rattle.lw_script.specs.declared.reading.ReadLine.{ReadLine}
+use Rattle.lw_script.specs.declared.reading.ReadLine.TheVariants.{Statement as StatementRead, Area as AreaRead}
 use Rattle.lw_script.specs.declared.state.Reader.{Reader}
-use Rattle.lw_statements.specs.declared.statement.Statement.{Statement as TheStatement}
 use Rattle.lw_words.specs.declared.stop.Stop.{Stop}
-use Rattle.lw_statements.specs.LineReading.{Reads}
+use Rattle.lw_script.specs.AreasRead.{lines_of, ReadsBelow}
 use Rattle.lw_script.specs.ReaderKnows.{known, setting_of}
 use Rattle.lw_script.specs.Represents.{Represents}
+
+-- Lines tell as many of everything.
+record AreCountedAlike (t u : Told) : Type 0 where
+  tasks : t.tasks ≡ u.tasks
+  bitmaps : t.bitmap_names ≡ u.bitmap_names
+  patterns : t.pattern_names ≡ u.pattern_names
+  names : t.names ≡ u.names
+  supers : t.supers ≡ u.supers
+  calls : t.so_far ≡ u.so_far
+
+-- so do those with a further statement, and with several
+alike_with : (f : Statement) (t u : Told) → AreCountedAlike t u → AreCountedAlike (told_with f t) (told_with f u)
+alike_with f t u k =
+    record { tasks = tasks_are f; bitmaps = bitmaps_are f; patterns = patterns_are f; names = names_are f; supers = supers_are f; calls = calls_are f }
+  where
+    tasks_are : (f : Statement) → (told_with f t).tasks ≡ (told_with f u).tasks
+    tasks_are (TaskLine n) = ap (λ ts. ts ++ n ∷ []) k.tasks
+    tasks_are f = k.tasks
+
+    bitmaps_are : (f : Statement) → (told_with f t).bitmap_names ≡ (told_with f u).bitmap_names
+    bitmaps_are (BitmapLine n w h d) = ap (λ ts. ts ++ n ∷ []) k.bitmaps
+    bitmaps_are f = k.bitmaps
+
+    patterns_are : (f : Statement) → (told_with f t).pattern_names ≡ (told_with f u).pattern_names
+    patterns_are (PatternLine n words) = ap (λ ts. ts ++ n ∷ []) k.patterns
+    patterns_are f = k.patterns
+
+    names_are : (f : Statement) → (told_with f t).names ≡ (told_with f u).names
+    names_are (CallLine layers act) = ap (λ ns. and_names ns layers) k.names
+    names_are (LockLine name) = ap (λ ns. and_name ns name) k.names
+    names_are (UnlockLine name) = ap (λ ns. and_name ns name) k.names
+    names_are f = k.names
+
+    supers_are : (f : Statement) → (told_with f t).supers ≡ (told_with f u).supers
+    supers_are (CallLine layers act) = ap (λ n. cond (makes_super (CallLine layers act)) 1 0 + n) k.supers
+    supers_are f = k.supers
+
+    calls_are : (f : Statement) → (told_with f t).so_far ≡ (told_with f u).so_far
+    calls_are (TaskLine n) = refl
+    calls_are (CallLine layers act) = ap (λ n. n + 1) k.calls
+    calls_are f = k.calls
+
+alike_all : (fs : List Statement) (t u : Told) → AreCountedAlike t u → AreCountedAlike (told_all fs t) (told_all fs u)
+alike_all [] t u k = k
+alike_all (f ∷ fs) t u k = alike_all fs (told_with f t) (told_with f u) (alike_with f t u k)
+
+-- so all of it are few, or not
+few_alike : (m n : ℕ) (t u : Told) → m ≡ n → AreCountedAlike t u → are_few (limits_of m) t ≡ are_few (limits_of n) u
+few_alike m n t u e k = rw (e, k.tasks, k.bitmaps, k.patterns, k.names, k.supers, k.calls) refl
 
 -- A reader that represents lines.
 module _ (s : Setting) (r : Reader) (above : List Statement) (k : Represents s r above) where
@@ -20,6 +73,7 @@ module _ (s : Setting) (r : Reader) (above : List Statement) (k : Represents s r
   again : (f : Statement) → gives_again (known r) f ≡ gives_again (told above) f
   again (GlyphLine code rows) = k.assets.given code
   again (BitmapLine name w h d) = rw k.assets.names refl
+  again (PatternLine name words) = rw k.assets.pattern_names refl
   again (TaskLine name) = rw k.tasks.tasks refl
   again f = refl
 
@@ -28,32 +82,45 @@ module _ (s : Setting) (r : Reader) (above : List Statement) (k : Represents s r
   used None = refl
   used (Some n) = k.tasks.used (unsigned_abs n)
 
-  -- the counts with a further line
+  -- the counts
+  counts : AreCountedAlike (known r) (told above)
+  counts =
+      record {
+        tasks = k.tasks.tasks;
+        bitmaps = k.assets.names;
+        patterns = k.assets.pattern_names;
+        names = k.tasks.names;
+        supers = k.tasks.supers;
+        calls = k.tasks.so_far;
+      }
+
+  -- and with a further line
   few : (f : Statement) → are_few (limits_of r.version) (told_with f (known r)) ≡ are_few (limits_of (told above).version) (told_with f (told above))
-  few f = rw (tasks_are f, bitmaps_are f, names_are f, supers_are f, calls_are f, k.version) refl
+  few f = few_alike _ _ (told_with f (known r)) (told_with f (told above)) k.version (alike_with f (known r) (told above) counts)
+
+  -- the words of a pattern
+  words_alike : (pattern : Option (List ℕ)) → area_words (known r) pattern ≡ area_words (told above) pattern
+  words_alike None = refl
+  words_alike (Some name) = rw (k.assets.pattern_names, k.assets.patterns) refl
+
+  -- what an area stands for, and its tests
+  areas_alike : (layer : List ℕ) (pattern : Option (List ℕ)) (points : List Point) → stands_for (known r) (AreaLine layer pattern points) ≡ stands_for (told above) (AreaLine layer pattern points)
+  areas_alike layer pattern points = rw (words_alike pattern, k.tasks.group) refl
+
+  area_alike : (layer : List ℕ) (pattern : Option (List ℕ)) (points : List Point) → area_tested (known r) layer pattern points ≡ area_tested (told above) layer pattern points
+  area_alike layer pattern points =
+      chain (list_all is_in_range points) _ _ _ _ _ _ (ap (λ ns. lacks_pattern ns pattern) k.assets.pattern_names) (ap (λ g. allows_area g layer) k.tasks.group) all
     where
-      tasks_are : (f : Statement) → (told_with f (known r)).tasks ≡ (told_with f (told above)).tasks
-      tasks_are (TaskLine n) = ap (λ ts. ts ++ n ∷ []) k.tasks.tasks
-      tasks_are f = k.tasks.tasks
+      fs : Told → List Statement
+      fs t = stands_for t (AreaLine layer pattern points)
 
-      bitmaps_are : (f : Statement) → (told_with f (known r)).bitmap_names ≡ (told_with f (told above)).bitmap_names
-      bitmaps_are (BitmapLine n w h d) = ap (λ ts. ts ++ n ∷ []) k.assets.names
-      bitmaps_are f = k.assets.names
+      all : are_few (limits_of r.version) (told_all (fs (known r)) (known r)) ≡ are_few (limits_of (told above).version) (told_all (fs (told above)) (told above))
+      all =
+          ap (λ gs. are_few (limits_of r.version) (told_all gs (known r))) (areas_alike layer pattern points)
+          ∙ few_alike _ _ (told_all (fs (told above)) (known r)) (told_all (fs (told above)) (told above)) k.version (alike_all (fs (told above)) (known r) (told above) counts)
 
-      names_are : (f : Statement) → (told_with f (known r)).names ≡ (told_with f (told above)).names
-      names_are (CallLine layers act) = ap (λ ns. and_names ns layers) k.tasks.names
-      names_are (LockLine name) = ap (λ ns. and_name ns name) k.tasks.names
-      names_are (UnlockLine name) = ap (λ ns. and_name ns name) k.tasks.names
-      names_are f = k.tasks.names
-
-      supers_are : (f : Statement) → (told_with f (known r)).supers ≡ (told_with f (told above)).supers
-      supers_are (CallLine layers act) = ap (λ n. cond (makes_super (CallLine layers act)) 1 0 + n) k.tasks.supers
-      supers_are f = k.tasks.supers
-
-      calls_are : (f : Statement) → (told_with f (known r)).so_far ≡ (told_with f (told above)).so_far
-      calls_are (TaskLine n) = refl
-      calls_are (CallLine layers act) = ap (λ n. n + 1) k.tasks.so_far
-      calls_are f = k.tasks.so_far
+      chain : (a b c d b' c' d' : Bool) → b ≡ b' → c ≡ c' → d ≡ d' → (demand a Range >>= (λ _. demand (not b) NoName >>= (λ _. demand c Group >>= (λ _. demand d TooMany)))) ≡ (demand a Range >>= (λ _. demand (not b') NoName >>= (λ _. demand c' Group >>= (λ _. demand d' TooMany))))
+      chain a b c d b' c' d' p q r = rw (p, q, r) refl
 
   -- the tests of a statement
   tests_alike : (f : Statement) → statement_tested (setting_of r) (known r) f ≡ statement_tested s (told above) f
@@ -63,24 +130,43 @@ module _ (s : Setting) (r : Reader) (above : List Statement) (k : Represents s r
       chain : (a b c d e g h i a' b' c' d' e' g' h' i' : Bool) → a ≡ a' → b ≡ b' → c ≡ c' → d ≡ d' → e ≡ e' → g ≡ g' → h ≡ h' → i ≡ i' → (demand a Range >>= (λ _. demand (not b) NoName >>= (λ _. demand (not c) DoubleName >>= (λ _. demand d Group >>= (λ _. demand e TooMany >>= (λ _. demand (not g) NoHook >>= (λ _. demand (not h) HookUsed >>= (λ _. demand (not i) Padding)))))))) ≡ (demand a' Range >>= (λ _. demand (not b') NoName >>= (λ _. demand (not c') DoubleName >>= (λ _. demand d' Group >>= (λ _. demand e' TooMany >>= (λ _. demand (not g') NoHook >>= (λ _. demand (not h') HookUsed >>= (λ _. demand (not i') Padding))))))))
       chain a b c d e g h i a' b' c' d' e' g' h' i' p q r s t u v w = rw (p, q, r, s, t, u, v, w) refl
 
+  -- the tests of what a line says
+  line_alike : (l : Line) → line_tested (setting_of r) (known r) l ≡ line_tested s (told above) l
+  line_alike (StatementLine f) = tests_alike f
+  line_alike (AreaLine layer pattern points) = area_alike layer pattern points
+
   -- what is read of a line
   lines_alike : (line : List ℕ) → line_read (setting_of r) (known r) line ≡ line_read s (told above) line
   lines_alike line = at_words (words_read line)
     where
-      at_statement : (o : Result Statement Reason) → (o >>= (λ f. statement_tested (setting_of r) (known r) f >>= (λ _. Ok f))) ≡ (o >>= (λ f. statement_tested s (told above) f >>= (λ _. Ok f)))
-      at_statement (Ok f) = rw (tests_alike f) refl
-      at_statement (Err e) = refl
+      at_line : (o : Result Line Reason) → (o >>= (λ l. line_tested (setting_of r) (known r) l >>= (λ _. Ok l))) ≡ (o >>= (λ l. line_tested s (told above) l >>= (λ _. Ok l)))
+      at_line (Ok l) = rw (line_alike l) refl
+      at_line (Err e) = refl
 
-      Statement_of : Result Statement Reason → Result Statement Reason
-      Statement_of o = o >>= (λ f. statement_tested (setting_of r) (known r) f >>= (λ _. Ok f))
+      Line_of : Result Line Reason → Result Line Reason
+      Line_of o = o >>= (λ l. line_tested (setting_of r) (known r) l >>= (λ _. Ok l))
 
-      at_words : (o : Result (List (List ℕ)) Reason) → (o >>= (λ ws. Statement_of (statement_read r.form r.version (known r).section r.assets.due r.assets.width ws))) ≡ (o >>= (λ ws. statement_read s.form (told above).version (told above).section (told above).rows_due (told above).row_width ws >>= (λ f. statement_tested s (told above) f >>= (λ _. Ok f))))
+      at_words : (o : Result (List (List ℕ)) Reason) → (o >>= (λ ws. Line_of (line_made r.form r.version (known r).section r.assets.due r.assets.width ws))) ≡ (o >>= (λ ws. line_made s.form (told above).version (told above).section (told above).rows_due (told above).row_width ws >>= (λ l. line_tested s (told above) l >>= (λ _. Ok l))))
       at_words (Err e) = refl
       at_words (Ok ws) =
-          let same : statement_read r.form r.version (known r).section r.assets.due r.assets.width ws ≡ statement_read s.form (told above).version (told above).section (told above).rows_due (told above).row_width ws = rw (k.form, k.version, k.section, k.assets.due, k.assets.width) refl in
-          ap Statement_of same ∙ at_statement (statement_read s.form (told above).version (told above).section (told above).rows_due (told above).row_width ws)
+          let same : line_made r.form r.version (known r).section r.assets.due r.assets.width ws ≡ line_made s.form (told above).version (told above).section (told above).rows_due (told above).row_width ws = rw (k.form, k.version, k.section, k.assets.due, k.assets.width) refl in
+          ap Line_of same ∙ at_line (line_made s.form (told above).version (told above).section (told above).rows_due (told above).row_width ws)
+
+  -- what lines stand for is the same below both
+  stands_alike : (l : Line) → stands_for (known r) l ≡ stands_for (told above) l
+  stands_alike (StatementLine f) = refl
+  stands_alike (AreaLine layer pattern points) = areas_alike layer pattern points
+
+  read_alike : (read : ReadLine) → lines_of (known r) read ≡ lines_of (told above) read
+  read_alike (StatementRead f) = refl
+  read_alike (AreaRead layer rects) = ap (λ g. area_lines g layer.now rects.items) k.tasks.group
+
+  answer_alike : (answer : Result ReadLine Stop) (o : Result Line Reason) → ReadsBelow (known r) answer o → ReadsBelow (told above) answer o
+  answer_alike (Ok read) o h = (h.0, h.1, sym (stands_alike h.0) ∙ h.2 ∙ read_alike read)
+  answer_alike (Err stop) o h = h
 
   -- so the reader reads a line as the grammar does
-  pub reads_alike : (line : List ℕ) (answer : Result TheStatement Stop) → Reads answer (line_read (setting_of r) (known r) line) → Reads answer (line_read s (told above) line)
+  pub reads_alike : (line : List ℕ) (answer : Result ReadLine Stop) → ReadsBelow (known r) answer (line_read (setting_of r) (known r) line) → ReadsBelow (told above) answer (line_read s (told above) line)
   reads_alike line answer h =
-      let P : Result Statement Reason → Type 0 = λ o. Reads answer o in subst P (lines_alike line) h
+      let P : Result Line Reason → Type 0 = λ o. ReadsBelow (told above) answer o in
+      subst P (lines_alike line) (answer_alike answer _ h)

@@ -1,6 +1,6 @@
--- Lines that leave what the reader has read: of glyphs and bitmaps, or of tasks.
+-- Lines that leave what the reader has read: of glyphs, bitmaps and patterns, or of tasks.
 use Rattle.std.proofs.Common.{◌≡◌, ℕ, ◌==◌, Bool, true, false, List, ◌∷◌, Result, Ok, Err, OnOk, ℤ, refl, sym, subst, ◌∙◌}
-use Rattle.lw_grammar.specs.Statements.{Statement, LayersLine, ScreenLine, GlyphLine, BitmapLine, RowLine, TaskLine, EndLine, OrderLine, NumbersLine, ReportLine, CallLine, LockLine, UnlockLine, HoldLine, ReleaseLine}
+use Rattle.lw_grammar.specs.Statements.{Statement, LayersLine, ScreenLine, GlyphLine, BitmapLine, RowLine, PatternLine, TaskLine, EndLine, OrderLine, NumbersLine, ReportLine, CallLine, LockLine, UnlockLine, HoldLine, ReleaseLine}
 use Rattle.lw_grammar.specs.Told.{told}
 use Rattle.lw_grammar.specs.Script.{Setting}
 use Rattle.lw_statements.specs.declared.section.Section.{Section}
@@ -11,11 +11,12 @@ use Rattle.lw_script.specs.declared.state.Reader.{Reader}
 use Rattle.lw_script.specs.Represents.{Represents, AssetsRepresent, TasksRepresent}
 use Rattle.std.proofs.lemmas.Bool.{eqb-true, false≢true}
 
--- the line is no glyph, no bitmap and no row
+-- the line is no glyph, no bitmap, no row and no pattern
 abbrev pub leaves_assets : Statement → Bool
 leaves_assets (GlyphLine code rows) = false
 leaves_assets (BitmapLine name w h d) = false
 leaves_assets (RowLine bytes) = false
+leaves_assets (PatternLine name words) = false
 leaves_assets f = true
 
 -- the line begins or ends no task or group, and is no call
@@ -43,11 +44,12 @@ leaves_rest f = true
 pub none_due : (s : Setting) (r : Reader) (above : List Statement) → Represents s r above → ((told above).rows_due == 0) ≡ true → r.assets.due ≡ 0
 none_due s r above k e = k.assets.due ∙ eqb-true _ _ e
 
--- glyphs and bitmaps below such a line
+-- glyphs, bitmaps and patterns below such a line
 pub assets_pass : (a : AssetsRead) (above : List Statement) (f : Statement) → leaves_assets f ≡ true → AssetsRepresent a above → AssetsRepresent a (f ∷ above)
 assets_pass a above (GlyphLine code rows) e k = absurd (false≢true e)
 assets_pass a above (BitmapLine name w h depth) e k = absurd (false≢true e)
 assets_pass a above (RowLine bytes) e k = absurd (false≢true e)
+assets_pass a above (PatternLine name words) e k = absurd (false≢true e)
 assets_pass a above f e k =
     record {
       given = k.given;
@@ -58,6 +60,8 @@ assets_pass a above f e k =
       due = k.due;
       begun = k.begun;
       bitmaps = k.bitmaps;
+      pattern_names = k.pattern_names;
+      patterns = k.patterns;
     }
 
 -- tasks below such a line
@@ -86,7 +90,7 @@ pub on_done : {A E : Type 0} (r : Result A E) (P Q : Type 0) → (P → Q) → O
 on_done (Ok a) P Q f h = f h
 on_done (Err e) P Q f h = tt
 
--- the reader below a line that changes its glyphs and bitmaps alone, or its tasks alone
+-- the reader below a line that changes its glyphs, bitmaps and patterns alone, or its tasks alone
 pub with_assets : (s : Setting) (r : Reader) (above : List Statement) (f : Statement) (a : AssetsRead) → leaves_rest f ≡ true → leaves_tasks f ≡ true → Represents s r above → AssetsRepresent a (f ∷ above) → Represents s (record r { assets = a }) (f ∷ above)
 with_assets s r above LayersLine a e t k new = absurd (false≢true e)
 with_assets s r above (ScreenLine w h d) a e t k new = absurd (false≢true e)

@@ -1,10 +1,10 @@
 -- What reading lines answers, and what reading a script answers.
-use Rattle.std.specs.Prelude.{◌≡◌, ℕ, List, ◌∷◌, Result, Ok, Err}
+use Rattle.std.specs.Prelude.{◌≡◌, ℕ, List, Result, Ok, Err}
 use Rattle.lw_grammar.specs.declared.reason.Reason.{Reason}
 use Rattle.lw_grammar.specs.Demands.{◌>>=◌}
-use Rattle.lw_grammar.specs.Statements.{Statement}
-use Rattle.lw_grammar.specs.Told.{told}
-use Rattle.lw_grammar.specs.Script.{Setting, Reached, end_read, ScriptInput, input_from}
+use Rattle.lw_grammar.specs.Statements.{Statement, Line}
+use Rattle.lw_grammar.specs.Told.{stands_for, told}
+use Rattle.lw_grammar.specs.Script.{Setting, added, Reached, end_read, ScriptInput, input_from}
 use Rattle.lw_script.specs.declared.input.Input.{Input}
 use Rattle.lw_script.specs.declared.input.ScriptStop.{ScriptStop}
 use Rattle.lw_script.specs.declared.input.ScriptStop.TheVariants.{Refused, Memory}
@@ -15,10 +15,10 @@ use Rattle.lw_script.specs.Represents.{Represents}
 abbrev pub input_meaning : Input → ScriptInput
 input_meaning i = record { plan = i.plan; order = i.order; rest = i.rest }
 
--- After a line below lines with these statements the reader represents one statement more, which is what the grammar gives; or
--- the line's number is told with the grammar's reason; or memory ran out.
-abbrev pub Takes : Setting → Reader → List Statement → ℕ → Result (Unit {0}) ScriptStop → Result Statement Reason → Type 0
-Takes s new above n (Ok done) r = (statement : Statement) × (r ≡ Ok statement) × Represents s new (statement ∷ above)
+-- After a line below lines with these statements the reader represents those too for which the line stands that the grammar
+-- gives; or the line's number is told with the grammar's reason; or memory ran out.
+abbrev pub Takes : Setting → Reader → List Statement → ℕ → Result (Unit {0}) ScriptStop → Result Line Reason → Type 0
+Takes s new above n (Ok done) r = (line : Line) × (r ≡ Ok line) × Represents s new (added (stands_for (told above) line) above)
 Takes s new above n (Err (Refused line reason)) r = (line ≡ n) × (r ≡ Err reason)
 Takes s new above n (Err Memory) r = Unit {0}
 

@@ -1,4 +1,5 @@
 pub mod Answers
+pub mod AreasRead
 pub mod CallParts
 pub mod Differing
 pub mod NextLine

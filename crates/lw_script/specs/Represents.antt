@@ -6,7 +6,8 @@ use Rattle.lw_planes.specs.Sizes.{AreSizes}
 use Rattle.lw_planes.specs.Storage.{stored}
 use Rattle.lw_grammar.specs.Statements.{Statement}
 use Rattle.lw_grammar.specs.Told.{told}
-use Rattle.lw_grammar.specs.Script.{Setting, AreGoodLines}
+use Rattle.lw_grammar.specs.Script.{Setting, added}
+use Rattle.lw_grammar.specs.GoodLines.{AreGoodLines}
 use Rattle.lw_script.specs.declared.state.AssetsRead.{AssetsRead}
 use Rattle.lw_script.specs.declared.state.TasksRead.{TasksRead}
 use Rattle.lw_script.specs.declared.state.Reader.{Reader}
@@ -23,7 +24,7 @@ pub record IsBitmapBegun (a : AssetsRead) : Type 0 where
   pub sizes : AreSizes a.width a.height a.depth
   pub long : length a.rows.items + a.due * row_bytes a.width ≡ a.depth * a.height * row_bytes a.width
 
--- glyphs and bitmaps
+-- glyphs, bitmaps and patterns
 pub record AssetsRepresent (a : AssetsRead) (above : List Statement) : Type 0 where
   pub given : (code : ℕ) → get_or a.given code false ≡ (told above).given code
   pub glyphs : (i : ℕ) → i < 95 → get_or a.glyphs i [] ≡ (told above).glyphs (32 + i)
@@ -33,6 +34,8 @@ pub record AssetsRepresent (a : AssetsRead) (above : List Statement) : Type 0 wh
   pub due : a.due ≡ (told above).rows_due
   pub begun : 0 < a.due → IsBitmapBegun a
   pub bitmaps : (rows : List ℕ) → (a.due ≡ 0 → rows ≡ []) → a.bitmaps.items ++ unfinished a rows ≡ (told above).bitmaps rows
+  pub pattern_names : targets a.pattern_names.keys ≡ (told above).pattern_names
+  pub patterns : a.patterns.items ≡ (told above).patterns
 
 -- tasks, their calls and their groups
 pub record TasksRepresent (t : TasksRead) (above : List Statement) : Type 0 where
@@ -66,3 +69,7 @@ HasRead r = (s : Setting) × (above : List Statement) × Represents s r above ×
 -- the same, where a line with this statement is good below them
 abbrev pub CanAdd : Reader → Statement → Type 0
 CanAdd r statement = (s : Setting) × (above : List Statement) × Represents s r above × AreGoodLines s (statement ∷ above)
+
+-- the same, where these statements are good below them, one after another
+abbrev pub CanAddAll : Reader → List Statement → Type 0
+CanAddAll r fs = (s : Setting) × (above : List Statement) × Represents s r above × AreGoodLines s (added fs above)

@@ -2,7 +2,7 @@
 ghost use Rattle.std.specs.Prelude.{◌≡◌, ◌≤◌, ◌++◌, pos, unsigned_abs, IsTrue, OnOk, List, ◌∷◌, length, map};
 ghost use Rattle.std.specs.List.{list_all};
 ghost use Rattle.lw_region.specs.Rectangle.{within};
-ghost use Rattle.lw_grammar.specs.Statements.{Statement as StatementValue, ScreenLine, GlyphLine, BitmapLine, RowLine, TaskLine, NumbersLine, CallLine, LockLine, UnlockLine, HoldLine, ReleaseLine};
+ghost use Rattle.lw_grammar.specs.Statements.{Statement as StatementValue, ScreenLine, GlyphLine, BitmapLine, RowLine, PatternLine, TaskLine, NumbersLine, CallLine, LockLine, UnlockLine, HoldLine, ReleaseLine};
 ghost use Rattle.lw_words.specs.Digits.{decoded};
 ghost use Rattle.lw_grammar.specs.Script.{Setting};
 ghost use Rattle.lw_words.specs.Cuts.{targets};
@@ -11,6 +11,7 @@ ghost use Rattle.lw_script.specs.CallParts.{bitmap_place};
 ghost use Rattle.lw_script.specs.Represents.{Represents, CanAdd};
 
 use crate::state::{Reader, place_of_name};
+use lw_area::Pattern;
 use lw_statements::{Act, Layers, Section, Statement, count, version_at_screen};
 use lw_words::Digits;
 use std::alloc::{AllocError, Global};
@@ -75,8 +76,17 @@ impl<'a> Reader<'a> {
         self.assets.add_row(alloc, digits)
     }
 
+    /// Adds a pattern.
+    fn add_pattern(&mut self, name: &'a [u8], pattern: &Pattern) -> Result<(), AllocError>
+        requires { CanAdd self.old (PatternLine name.now pattern.now) }
+        ensures { (s : Setting) (above : List StatementValue) → Represents s self.old above
+            → OnOk result (Represents s self.new (PatternLine name.entry.now pattern.now ∷ above)) }
+    {
+        self.assets.add_pattern(name, pattern)
+    }
+
     /// Adds the beginning of a lock on a layer.
-    fn add_lock(&mut self, name: &'a [u8]) -> Result<(), AllocError>
+    pub(crate) fn add_lock(&mut self, name: &'a [u8]) -> Result<(), AllocError>
         requires { CanAdd self.old (LockLine name.now) }
         ensures { (s : Setting) (above : List StatementValue) → Represents s self.old above
             → OnOk result (Represents s self.new (LockLine name.entry.now ∷ above)) }
@@ -85,7 +95,7 @@ impl<'a> Reader<'a> {
     }
 
     /// Adds the end of a lock on a layer.
-    fn add_unlock(&mut self, name: &'a [u8]) -> Result<(), AllocError>
+    pub(crate) fn add_unlock(&mut self, name: &'a [u8]) -> Result<(), AllocError>
         requires { CanAdd self.old (UnlockLine name.now) }
         ensures { (s : Setting) (above : List StatementValue) → Represents s self.old above
             → OnOk result (Represents s self.new (UnlockLine name.entry.now ∷ above)) }
@@ -143,7 +153,7 @@ impl<'a> Reader<'a> {
     }
 
     /// Adds a call.
-    fn add_call(
+    pub(crate) fn add_call(
         &mut self,
         alloc: Global,
         layers: Layers<'a>,
@@ -187,6 +197,7 @@ impl<'a> Reader<'a> {
                 depth,
             } => self.add_bitmap(alloc, *name, *width, *height, *depth),
             Statement::Row(digits) => self.add_row(alloc, digits),
+            Statement::Pattern { name, pattern } => self.add_pattern(*name, pattern),
             Statement::Task(name) => self.add_task(alloc, *name),
             Statement::End => {
                 self.section = Section::Tasks;

@@ -3,12 +3,13 @@ ghost use Rattle.std.specs.Prelude.{◌≡◌, ◌<◌, ◌≤◌, pos, false, I
 ghost use Rattle.std.specs.List.{list_any};
 ghost use Rattle.lw_region.specs.Rectangle.{within};
 ghost use Rattle.lw_planes.specs.Bitmap.{row_bytes};
-ghost use Rattle.lw_grammar.specs.Statements.{Statement as StatementValue, GlyphLine, BitmapLine, RowLine};
+ghost use Rattle.lw_grammar.specs.Statements.{Statement as StatementValue, GlyphLine, BitmapLine, RowLine, PatternLine};
 ghost use Rattle.lw_words.specs.Cuts.{targets};
 ghost use Rattle.lw_words.specs.Digits.{decoded};
 ghost use Rattle.lw_script.specs.Represents.{AssetsRepresent, IsBitmapBegun};
 
 use crate::state::AssetsRead;
+use lw_area::Pattern;
 use lw_planes::Planes;
 use lw_statements::count;
 use lw_words::Digits;
@@ -48,6 +49,23 @@ impl<'a> AssetsRead<'a> {
     {
         self.given[code as usize] = true;
         self.glyphs[code as usize - 32] = glyph_of(digits);
+    }
+
+    /// Adds a pattern.
+    pub(crate) fn add_pattern(
+        &mut self,
+        name: &'a [u8],
+        pattern: &Pattern,
+    ) -> Result<(), AllocError>
+        requires new { list_any (bytes_eq name.now) (targets self.old.pattern_names.keys) ≡ false }
+        requires due { self.old.due ≡ 0 }
+        ensures { (above : List StatementValue) → AssetsRepresent self.old above
+            → OnOk result (AssetsRepresent self.new (PatternLine name.entry.now pattern.now ∷ above)) }
+    {
+        let pattern = Pattern::new(pattern.words()).unwrap();
+        self.pattern_names.insert(name)?;
+        self.patterns.push(pattern)?;
+        Ok(())
     }
 
     /// Adds a bitmap, whose rows are then due.

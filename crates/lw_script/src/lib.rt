@@ -4,6 +4,7 @@
 #![tactic(auto)]
 
 mod adding;
+mod areas;
 mod assets;
 mod differing;
 mod finish;

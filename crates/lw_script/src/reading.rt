@@ -1,30 +1,78 @@
-//! The statement of a line below those read so far.
-ghost use Rattle.std.specs.Prelude.{◌≤◌, List};
-ghost use Rattle.lw_grammar.specs.Statements.{Statement as StatementValue};
+//! What a line says below those read so far.
+ghost use Rattle.std.specs.Prelude.{◌≡◌, ◌≤◌, List, length};
+ghost use Rattle.lw_grammar.specs.Statements.{Statement as StatementValue, StatementLine};
 ghost use Rattle.lw_grammar.specs.Told.{told};
-ghost use Rattle.lw_grammar.specs.Script.{Setting, line_read, statement_of};
+ghost use Rattle.lw_grammar.specs.Script.{Setting, line_read, line_of_words};
 ghost use Rattle.lw_words.specs.Cuts.{targets};
-ghost use Rattle.lw_statements.specs.LineReading.{Reads};
 ghost use Rattle.lw_script.specs.ReaderKnows.{known, setting_of};
+ghost use Rattle.lw_statements.specs.StatementMeaning.{statement_meaning, line_meaning};
+ghost use Rattle.lw_script.specs.AreasRead.{ReadsBelow, area_meaning, if_passed};
 ghost use Rattle.lw_script.specs.Represents.{Represents};
 
 use crate::state::Reader;
-use lw_statements::{Statement, words_statement};
+use lw_region::Rect;
+use lw_statements::{AskedPolygon, Line, Statement, words_line};
 use lw_words::{Stop, Token, line_words};
 use std::alloc::Global;
 
+/// What a line says that was read: a statement, or an area by its layer and its rectangles.
+#[derive(Drop)]
+pub enum ReadLine<'a> {
+    Statement(Statement<'a>),
+    Area { layer: &'a [u8], rects: Vec<Rect> },
+}
+
 impl<'a> Reader<'a> {
-    /// The statement of a line of these words, or its first reason.
+    /// A line's statement, if it passes its tests, or its first reason.
+    fn tested_statement(&self, statement: Statement<'a>) -> Result<ReadLine<'a>, Stop>
+        ensures { ReadsBelow (known self.now) result
+            (if_passed (setting_of self.now) (known self.now) (StatementLine (statement_meaning statement.entry))) }
+    {
+        match self.tested(&statement) {
+            Err(reason) => Err(Stop::Refused(reason)),
+            Ok(()) => Ok(ReadLine::Statement(statement)),
+        }
+    }
+
+    /// A line's area, if it passes its tests, or its first reason.
+    fn tested_area(&self, alloc: Global, area: AskedPolygon<'a>) -> Result<ReadLine<'a>, Stop>
+        requires { length self.now.assets.patterns.items ≡ length self.now.assets.pattern_names.keys }
+        ensures { ReadsBelow (known self.now) result
+            (if_passed (setting_of self.now) (known self.now) (area_meaning area.entry)) }
+    {
+        match self.area_rects(alloc, &area) {
+            Err(stop) => Err(stop),
+            Ok(rects) => Ok(ReadLine::Area {
+                layer: area.layer,
+                rects,
+            }),
+        }
+    }
+
+    /// What a line says, if it passes its tests, or its first reason.
+    fn tested_line(&self, alloc: Global, line: Line<'a>) -> Result<ReadLine<'a>, Stop>
+        requires { length self.now.assets.patterns.items ≡ length self.now.assets.pattern_names.keys }
+        ensures { ReadsBelow (known self.now) result
+            (if_passed (setting_of self.now) (known self.now) (line_meaning line.entry)) }
+    {
+        match line {
+            Line::Statement(statement) => self.tested_statement(statement),
+            Line::Area(area) => self.tested_area(alloc, area),
+        }
+    }
+
+    /// What a line of these words says, or its first reason.
     fn words_line(
         &self,
         alloc: Global,
         words: &[&'a [u8]],
         tokens: &mut Vec<Token<'a>>,
-    ) -> Result<Statement<'a>, Stop>
-        requires { self.now.assets.width ≤ 1024 }
-        ensures { Reads result (statement_of (setting_of self.now) (known self.now) (targets words.now)) }
+    ) -> Result<ReadLine<'a>, Stop>
+        requires wide { self.now.assets.width ≤ 1024 }
+        requires lists { length self.now.assets.patterns.items ≡ length self.now.assets.pattern_names.keys }
+        ensures { ReadsBelow (known self.now) result (line_of_words (setting_of self.now) (known self.now) (targets words.now)) }
     {
-        let read = words_statement(
+        match words_line(
             alloc,
             self.form,
             self.version,
@@ -33,25 +81,23 @@ impl<'a> Reader<'a> {
             self.assets.width,
             words,
             tokens,
-        );
-        if let Ok(statement) = &read {
-            if let Err(reason) = self.tested(statement) {
-                return Err(Stop::Refused(reason));
-            }
+        ) {
+            Err(stop) => Err(stop),
+            Ok(line) => self.tested_line(alloc, line),
         }
-        read
     }
 
-    /// The statement of a line that isn't skipped, or its first reason.
+    /// What a line says that isn't skipped, or its first reason.
     fn line(
         &self,
         alloc: Global,
         line: &'a [u8],
         words: &mut Vec<&'a [u8]>,
         tokens: &mut Vec<Token<'a>>,
-    ) -> Result<Statement<'a>, Stop>
-        requires { self.now.assets.width ≤ 1024 }
-        ensures { Reads result (line_read (setting_of self.now) (known self.now) line.entry.now) }
+    ) -> Result<ReadLine<'a>, Stop>
+        requires wide { self.now.assets.width ≤ 1024 }
+        requires lists { length self.now.assets.patterns.items ≡ length self.now.assets.pattern_names.keys }
+        ensures { ReadsBelow (known self.now) result (line_read (setting_of self.now) (known self.now) line.entry.now) }
     {
         match line_words(line, words) {
             Err(stop) => Err(stop),
@@ -59,7 +105,7 @@ impl<'a> Reader<'a> {
         }
     }
 
-    /// The statement of a line that isn't skipped, below the lines that were read, or its first reason. The lists are lent for
+    /// What a line says that isn't skipped, below the lines that were read, or its first reason. The lists are lent for
     /// their room, which is kept from line to line.
     pub fn read_line(
         &self,
@@ -67,10 +113,11 @@ impl<'a> Reader<'a> {
         line: &'a [u8],
         words: &mut Vec<&'a [u8]>,
         tokens: &mut Vec<Token<'a>>,
-    ) -> Result<Statement<'a>, Stop>
-        requires { self.now.assets.width ≤ 1024 }
+    ) -> Result<ReadLine<'a>, Stop>
+        requires wide { self.now.assets.width ≤ 1024 }
+        requires lists { length self.now.assets.patterns.items ≡ length self.now.assets.pattern_names.keys }
         ensures { (s : Setting) (above : List StatementValue) → Represents s self.now above
-            → Reads result (line_read s (told above) line.entry.now) }
+            → ReadsBelow (told above) result (line_read s (told above) line.entry.now) }
     {
         self.line(alloc, line, words, tokens)
     }

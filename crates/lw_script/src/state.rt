@@ -5,13 +5,14 @@ ghost use Rattle.lw_grammar.specs.Told.{place_among};
 ghost use Rattle.lw_words.specs.Cuts.{targets};
 
 use indexmap::IndexSet;
+use lw_area::Pattern;
 use lw_calls::{Call, Group};
 use lw_grammar::Form;
 use lw_planes::Planes;
 use lw_statements::{OpenGroup, Section};
 use std::alloc::Global;
 
-/// The glyphs and bitmaps that were read.
+/// The glyphs, bitmaps and patterns that were read.
 #[derive(Drop)]
 pub struct AssetsRead<'a> {
     /// Which codes have a glyph.
@@ -29,6 +30,9 @@ pub struct AssetsRead<'a> {
     pub due: u32,
     /// Its rows so far.
     pub rows: Vec<u8>,
+    /// The patterns' names, and the patterns.
+    pub pattern_names: IndexSet<&'a [u8]>,
+    pub patterns: Vec<Pattern>,
 }
 
 /// The tasks, calls and groups that were read. Names are numbered in the order of their first appearance.
@@ -95,6 +99,8 @@ impl<'a> Reader<'a> {
                 depth: 0,
                 due: 0,
                 rows: Vec::new(alloc),
+                pattern_names: IndexSet::new(alloc),
+                patterns: Vec::new(alloc),
             },
             tasks: TasksRead {
                 task_names: IndexSet::new(alloc),

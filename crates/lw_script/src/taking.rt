@@ -1,19 +1,33 @@
 //! A line taken from the bytes that are left.
-ghost use Rattle.std.specs.Prelude.{List};
+ghost use Rattle.std.specs.Prelude.{List, OnOk};
 ghost use Rattle.lw_grammar.specs.Statements.{Statement as StatementValue};
 ghost use Rattle.lw_grammar.specs.Told.{told};
-ghost use Rattle.lw_grammar.specs.Script.{Setting, is_nothing_due, line_read, statements_with};
+ghost use Rattle.lw_grammar.specs.Script.{Setting, is_nothing_due, line_read, statements_with, added};
 ghost use Rattle.lw_statements.specs.SectionMeaning.{section_meaning};
 ghost use Rattle.lw_script.specs.Represents.{Represents, HasRead};
+ghost use Rattle.lw_script.specs.AreasRead.{CanAddRead, lines_of};
 ghost use Rattle.lw_script.specs.Answers.{Takes, Advances};
 ghost use Rattle.lw_script.specs.NextLine.{CutsDue};
 
 use crate::input::ScriptStop;
+use crate::reading::ReadLine;
 use crate::state::Reader;
 use lw_words::{Stop, Token, cut_line, is_skipped};
-use std::alloc::Global;
+use std::alloc::{AllocError, Global};
 
 impl<'a> Reader<'a> {
+    /// Adds what a line stands for that was read.
+    fn add_read(&mut self, alloc: Global, read: &ReadLine<'a>) -> Result<(), AllocError>
+        requires { CanAddRead self.old read.now }
+        ensures { (s : Setting) (above : List StatementValue) → Represents s self.old above
+            → OnOk result (Represents s self.new (added (lines_of (told above) read.now) above)) }
+    {
+        match read {
+            ReadLine::Statement(statement) => self.add(alloc, statement),
+            ReadLine::Area { layer, rects } => self.add_area(alloc, *layer, rects.as_slice()),
+        }
+    }
+
     /// Reads a line that isn't skipped, and adds it. The lists are lent for their room, which is kept from line to line.
     pub fn take(
         &mut self,
@@ -33,7 +47,7 @@ impl<'a> Reader<'a> {
                 reason,
             }),
             Err(Stop::Memory) => Err(ScriptStop::Memory),
-            Ok(statement) => Ok(self.add(alloc, &statement)?),
+            Ok(read) => Ok(self.add_read(alloc, &read)?),
         }
     }
 

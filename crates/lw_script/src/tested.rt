@@ -13,12 +13,14 @@ use lw_grammar::Reason;
 use lw_statements::{Act, Layers, Statement, count};
 use lw_words::is_text;
 
-/// How many tasks, bitmaps and lines that ask for a super-bitmap layer a script has at most.
-const TASK_LIMIT: usize = 16;
+/// How many tasks, bitmaps, patterns and lines that ask for a super-bitmap layer a script has at most.
+pub(crate) const TASK_LIMIT: usize = 16;
 
-const BITMAP_LIMIT: usize = 16;
+pub(crate) const BITMAP_LIMIT: usize = 16;
 
-const SUPER_LIMIT: u32 = 16;
+pub(crate) const PATTERN_LIMIT: usize = 16;
+
+pub(crate) const SUPER_LIMIT: u32 = 16;
 
 impl<'a> Reader<'a> {
     /// Whether it is a line `put` whose bitmap doesn't stand above.
@@ -34,13 +36,14 @@ impl<'a> Reader<'a> {
         }
     }
 
-    /// Whether the line gives a bitmap, a task or a code again.
+    /// Whether the line gives a bitmap, a pattern, a task or a code again.
     fn gives_again(&self, statement: &Statement<'a>) -> bool
         ensures { result ≡ gives_again (known self.now) (statement_meaning statement.now) }
     {
         match statement {
             Statement::Glyph { code, .. } => self.assets.given[*code as usize],
             Statement::Bitmap { name, .. } => has_name(&self.assets.names, name),
+            Statement::Pattern { name, .. } => has_name(&self.assets.pattern_names, name),
             Statement::Task(name) => has_name(&self.tasks.task_names, name),
             _ => false,
         }
@@ -66,6 +69,16 @@ impl<'a> Reader<'a> {
         }
     }
 
+    /// How many patterns there are with the line.
+    fn patterns_with(&self, statement: &Statement<'a>) -> usize
+        ensures { result ≡ length (told_with (statement_meaning statement.now) (known self.now)).pattern_names }
+    {
+        match statement {
+            Statement::Pattern { .. } => self.assets.pattern_names.len() + 1,
+            _ => self.assets.pattern_names.len(),
+        }
+    }
+
     /// Whether a task may have the line's call beside those that it has, where it may have so many.
     fn has_room_for_call(&self, statement: &Statement<'a>, calls: u32) -> bool
         ensures { result ≡ nat_le (told_with (statement_meaning statement.now) (known self.now)).so_far calls }
@@ -88,7 +101,7 @@ impl<'a> Reader<'a> {
     }
 
     /// How many layer names there are with this one.
-    fn with_name(&self, name: &&'a [u8]) -> usize
+    pub(crate) fn with_name(&self, name: &&'a [u8]) -> usize
         ensures { result ≡ length (and_name (known self.now).names name.now.now) }
     {
         if has_name(&self.tasks.layer_names, name) {
@@ -148,7 +161,9 @@ impl<'a> Reader<'a> {
         ensures { result ≡ are_few (limits_of self.now.version) (told_with (statement_meaning statement.now) (known self.now)) }
     {
         let limits = limits_of(self.version);
-        ((self.tasks_with(statement) <= TASK_LIMIT && self.bitmaps_with(statement) <= BITMAP_LIMIT)
+        ((self.tasks_with(statement) <= TASK_LIMIT
+            && (self.bitmaps_with(statement) <= BITMAP_LIMIT
+                && self.patterns_with(statement) <= PATTERN_LIMIT))
             && self.has_room_for_names(statement, limits.names))
             && (self.has_room_for_super(statement)
                 && self.has_room_for_call(statement, limits.calls))

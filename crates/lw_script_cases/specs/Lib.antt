@@ -4,3 +4,4 @@ pub mod LinesBelow
 pub mod Refused
 pub mod SpelledPlans
 pub mod VersionLines
+pub mod AreaScripts

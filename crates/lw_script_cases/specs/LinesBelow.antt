@@ -6,26 +6,27 @@ use Rattle.std.specs.Fmt.{decimal}
 use Rattle.lw_grammar.specs.declared.form.Form.{Form}
 use Rattle.lw_grammar.specs.declared.reason.Reason.{Reason}
 use Rattle.lw_grammar.specs.Demands.{◌>>=◌}
-use Rattle.lw_grammar.specs.Statements.{Statement}
+use Rattle.lw_grammar.specs.Statements.{Statement, Line}
 use Rattle.lw_grammar.specs.Lines.{lines}
-use Rattle.lw_grammar.specs.Told.{told}
-use Rattle.lw_grammar.specs.Script.{Setting, words_read, statement_read, line_read}
+use Rattle.lw_grammar.specs.Told.{stands_for, told}
+use Rattle.lw_grammar.specs.Script.{Setting, words_read, line_made, line_read, added}
 use Rattle.lw_script_cases.specs.WholeScripts.{script, in_task_a, created, of_version_2}
 
--- the statements of lines whose words make statements, put on those of the lines above them
-abbrev pub and_statement : Result Statement Reason → List Statement → List Statement
-and_statement (Ok statement) above = statement ∷ above
-and_statement (Err reason) above = above
+-- the statements for which lines stand whose words make lines, put on those of the lines above them
+abbrev pub and_line : Result Line Reason → List Statement → List Statement
+and_line (Ok line) above = added (stands_for (told above) line) above
+and_line (Err reason) above = above
 
 abbrev pub statements_below : Form → List Statement → List (List ℕ) → List Statement
 statements_below form above [] = above
 statements_below form above (line ∷ ls) =
-    statements_below form (and_statement (words_read line
-    >>= (λ ws. statement_read form (told above).version (told above).section (told above).rows_due (told above).row_width ws)) above) ls
+    statements_below form (and_line (words_read line
+    >>= (λ ws. line_made form (told above).version (told above).section (told above).rows_due (told above).row_width ws)) above)
+    ls
 
 -- the first reason, if there is one
-abbrev pub reason_of : Result Statement Reason → Option Reason
-reason_of (Ok statement) = None
+abbrev pub reason_of : Result Line Reason → Option Reason
+reason_of (Ok line) = None
 reason_of (Err reason) = Some reason
 
 -- the first reason of a line below the lines of these bytes

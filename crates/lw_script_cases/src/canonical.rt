@@ -8,6 +8,7 @@ ghost use Rattle.lw_cases.specs.Versions.{hook_replaced};
 ghost use Rattle.lw_script_cases.specs.WholeScripts.{first_fill_script};
 ghost use Rattle.lw_script_cases.specs.CanonicalTexts.{three_tasks, three_tasks_text, all_asked, all_asked_text, further_calls, further_calls_text};
 ghost use Rattle.lw_script_cases.specs.VersionLines.{hook_replaced_script};
+ghost use Rattle.lw_script_cases.specs.AreaScripts.{triangle, triangle_text};
 
 /// The first fill's canonical text is its script.
 pub fn first_fill_is_canonical()
@@ -32,4 +33,9 @@ pub fn calls_have_their_words()
 /// The canonical text of a plan of version 2 begins with that.
 pub fn version_2_stands_first()
     ensures { canonical_text hook_replaced ≡ hook_replaced_script }
+{}
+
+/// The canonical text of a script with an area has its fills.
+pub fn fills_stand_for_areas()
+    ensures { canonical_text triangle ≡ triangle_text }
 {}

@@ -2,6 +2,8 @@
 //! answer for this script, or this text for this plan. The check computes it.
 #![tactic(auto)]
 
+pub mod area_reports;
+pub mod area_scripts;
 pub mod canonical;
 pub mod lines_below;
 pub mod refused;

@@ -2,6 +2,8 @@
 #![tactic(auto)]
 
 #[cfg(test)]
+mod tests_areas;
+#[cfg(test)]
 mod tests_counts;
 #[cfg(test)]
 mod tests_order;

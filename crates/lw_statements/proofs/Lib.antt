@@ -1,3 +1,5 @@
 mod ActNumbers
+mod AreaPoints
 mod Classes
+mod PatternWords
 mod RectRanges

@@ -1,7 +1,8 @@
 pub mod AskedParts
 pub mod CallMeaning
-pub mod StatementMeaning
+pub mod FirstPoint
 pub mod GroupMeaning
 pub mod LineReading
 pub mod OwnBits
 pub mod SectionMeaning
+pub mod StatementMeaning

@@ -1,8 +1,9 @@
 -- What a statement of the reader means.
-use Rattle.std.specs.Prelude.{List, [], ◌∷◌, ℕ}
+use Rattle.std.specs.Prelude.{List, [], ◌∷◌, ℕ, map, option_map}
 use Rattle.lw_region.specs.Rectangle.{Rectangle}
+use Rattle.lw_area.specs.declared.point.Point.{Point}
 use Rattle.lw_calls.specs.declared.area.Area.{Area}
-use Rattle.lw_grammar.specs.Statements.{NewLayer as NewLayerMeaning, Act as ActMeaning, BareAct, NumberAct, PairAct, TextAct, RegRectAct, RegPairAct, RegClearAct, CreateAct, OpenAct, InFrontAct, BoxAct, WhichAct, FillAct, ScrollRasterAct, PutAct, BlitAct, EndRefreshAct, Statement as Meaning, LayersLine, ScreenLine, GlyphLine, BitmapLine, RowLine, TaskLine, EndLine, OrderLine, NumbersLine, ReportLine, CallLine, LockLine, UnlockLine, HoldLine, ReleaseLine, four}
+use Rattle.lw_grammar.specs.Statements.{NewLayer as NewLayerMeaning, Act as ActMeaning, BareAct, NumberAct, PairAct, TextAct, RegRectAct, RegPairAct, RegClearAct, CreateAct, OpenAct, InFrontAct, BoxAct, WhichAct, FillAct, ScrollRasterAct, PutAct, BlitAct, EndRefreshAct, Statement as Meaning, LayersLine, ScreenLine, GlyphLine, BitmapLine, RowLine, PatternLine, TaskLine, EndLine, OrderLine, NumbersLine, ReportLine, CallLine, LockLine, UnlockLine, HoldLine, ReleaseLine, Line as LineMeaning, StatementLine, AreaLine, four, point}
 use Rattle.lw_statements.specs.declared.statement.Corners.{Corners}
 use Rattle.lw_statements.specs.declared.statement.NewLayer.{NewLayer}
 use Rattle.lw_statements.specs.declared.statement.AskedArea.{AskedArea}
@@ -11,7 +12,10 @@ use Rattle.lw_statements.specs.declared.statement.Act.TheVariants.{RegRect, RegP
 use Rattle.lw_statements.specs.declared.statement.Layers.{Layers}
 use Rattle.lw_statements.specs.declared.statement.Layers.TheVariants.{Nothing, One, Two}
 use Rattle.lw_statements.specs.declared.statement.Statement.{Statement}
-use Rattle.lw_statements.specs.declared.statement.Statement.TheVariants.{Layers as LayersOf, Screen, Glyph, Bitmap, Row, Task, End, Order, Numbers, Report, Call, Lock, Unlock, Hold, Release}
+use Rattle.lw_statements.specs.declared.statement.Statement.TheVariants.{Layers as LayersOf, Screen, Glyph, Bitmap, Row, Pattern, Task, End, Order, Numbers, Report, Call, Lock, Unlock, Hold, Release}
+use Rattle.lw_statements.specs.declared.statement.AskedPoint.{AskedPoint}
+use Rattle.lw_statements.specs.declared.statement.Line.{Line}
+use Rattle.lw_statements.specs.declared.statement.Line.TheVariants.{Statement as StatementOf, Area as AreaOf}
 use Rattle.lw_words.specs.Digits.{decoded}
 
 -- the four numbers as bounds
@@ -66,6 +70,7 @@ statement_meaning (Screen w h d) = ScreenLine w h d
 statement_meaning (Glyph code digits) = GlyphLine code (decoded digits.digits.now)
 statement_meaning (Bitmap name w h d) = BitmapLine name.now w h d
 statement_meaning (Row digits) = RowLine (decoded digits.digits.now)
+statement_meaning (Pattern name pattern) = PatternLine name.now pattern
 statement_meaning (Task name) = TaskLine name.now
 statement_meaning End = EndLine
 statement_meaning Order = OrderLine
@@ -76,3 +81,12 @@ statement_meaning (Lock name) = LockLine name.now
 statement_meaning (Unlock name) = UnlockLine name.now
 statement_meaning Hold = HoldLine
 statement_meaning Release = ReleaseLine
+
+-- points by their columns and rows
+abbrev pub point_meaning : AskedPoint → Point
+point_meaning p = point p.x p.y
+
+-- a statement as it is, and an area by its names and points
+abbrev pub line_meaning : Line → LineMeaning
+line_meaning (StatementOf f) = StatementLine (statement_meaning f)
+line_meaning (AreaOf a) = AreaLine a.layer.now (option_map (λ n. n.now) a.pattern) (map point_meaning a.points.items)

@@ -2,11 +2,11 @@
 ghost use Rattle.std.specs.Prelude.{◌≡◌, ℕ, List, is_none, option_map};
 ghost use Rattle.lw_grammar.specs.Statements.{CallLine};
 ghost use Rattle.lw_grammar.specs.Told.{makes_super, hook_on};
-ghost use Rattle.lw_grammar.specs.Script.{is_on_all, is_beginning, is_ending, are_all, is_on_one, group_allows, is_lock_on, is_hold, fits_group};
+ghost use Rattle.lw_grammar.specs.Script.{is_on_all, is_beginning, is_ending, are_all, is_on_one, group_allows, allows_area, is_lock_on, is_hold, fits_group};
 ghost use Rattle.lw_statements.specs.StatementMeaning.{act_meaning, layers_meaning, statement_meaning};
 ghost use Rattle.lw_statements.specs.GroupMeaning.{group_meaning};
 
-use crate::statement::{Act, Layers, Statement};
+use crate::statement::{Act, AskedPolygon, Layers, Statement};
 use lw_calls::Kind;
 use lw_grammar::{BareVerb, NumberVerb, PairVerb};
 use lw_words::is_text;
@@ -162,6 +162,7 @@ impl Statement<'_> {
             | Statement::Glyph { .. }
             | Statement::Bitmap { .. }
             | Statement::Row(_)
+            | Statement::Pattern { .. }
             | Statement::Task(_)
             | Statement::Order
             | Statement::Numbers(_)
@@ -186,6 +187,21 @@ impl Statement<'_> {
         match self {
             Statement::Call { act, .. } => act.hook(),
             _ => None,
+        }
+    }
+}
+
+impl AskedPolygon<'_> {
+    /// Whether the area may stand in this group, or in none.
+    pub fn fits_group(&self, group: &Option<OpenGroup<'_>>) -> bool
+        ensures { result ≡ allows_area (option_map group_meaning group.now) self.now.layer.now }
+    {
+        match group {
+            None => true,
+            Some(OpenGroup::Locked(layer) | OpenGroup::Updating(layer)) => {
+                is_text(*layer, self.layer)
+            }
+            Some(OpenGroup::Held) => false,
         }
     }
 }

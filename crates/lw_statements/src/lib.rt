@@ -6,7 +6,8 @@ mod acts;
 mod calls;
 mod converted;
 mod corners;
-mod line;
+mod line_read;
+mod lines_area;
 mod lines_asked;
 mod lines_blit;
 mod lines_layer;
@@ -18,7 +19,9 @@ mod statement;
 
 pub use acts::OpenGroup;
 pub use converted::count;
-pub use line::words_statement;
+pub use line_read::words_line;
 pub use ranges::version_at_screen;
 pub use section::Section;
-pub use statement::{Act, AskedArea, Corners, Layers, NewLayer, Statement};
+pub use statement::{
+    Act, AskedArea, AskedPoint, AskedPolygon, Corners, Layers, Line, NewLayer, Statement,
+};

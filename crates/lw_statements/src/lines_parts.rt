@@ -1,10 +1,11 @@
 ghost use Rattle.std.specs.Prelude.{◌≡◌, ◌≤◌, ℕ, List, ◌∷◌, map, option_map, IfOk};
-ghost use Rattle.lw_grammar.specs.Statements.{Statement as StatementValue, layers_line, screen_line, glyph_of_bytes, glyph_line, bitmap_line, row_line, numbers_line, all_numbers, name_line, alone_line};
-ghost use Rattle.lw_grammar.specs.Tokens.{bytes_in};
+ghost use Rattle.lw_grammar.specs.Statements.{Statement as StatementValue, layers_line, screen_line, glyph_of_bytes, glyph_line, bitmap_line, row_line, pattern_word, pattern_words, pattern_line, numbers_line, all_numbers, name_line, alone_line};
+ghost use Rattle.lw_grammar.specs.Tokens.{NameToken, bytes_in};
 ghost use Rattle.lw_words.specs.TokenMeaning.{token_meaning};
 ghost use Rattle.lw_statements.specs.StatementMeaning.{statement_meaning};
 
 use crate::statement::Statement;
+use lw_area::Pattern;
 use lw_words::{Token, digits_in, is_text};
 use std::alloc::{AllocError, Global};
 
@@ -108,6 +109,61 @@ pub(crate) fn row_line<'a>(width: u32, tokens: &[Token<'a>]) -> Option<Statement
             None => None,
         },
         _ => None,
+    }
+}
+
+/// The word of a pattern that a token is.
+fn pattern_word(token: &Token<'_>) -> Option<u16>
+    ensures { result ≡ pattern_word (bytes_in 2 (token_meaning token.now)) }
+{
+    match digits_in(2, token) {
+        None => None,
+        Some(digits) => Some(u16::from(digits.byte(0)) * 256 + u16::from(digits.byte(1))),
+    }
+}
+
+/// The words of a pattern that tokens are.
+fn pattern_words(alloc: Global, tokens: &[Token<'_>]) -> Result<Option<Vec<u16>>, AllocError>
+    ensures { IfOk result (λ found. option_map (λ v. v.items) found ≡ pattern_words (map token_meaning tokens.now)) }
+{
+    let mut words = Vec::new(alloc);
+    for token in tokens {
+        match pattern_word(token) {
+            Some(word) => words.push(word)?,
+            None => return Ok(None),
+        }
+    }
+    Ok(Some(words))
+}
+
+/// The pattern of this name and of these words.
+fn pattern_after<'a>(
+    alloc: Global,
+    name: &'a [u8],
+    tokens: &[Token<'a>],
+) -> Result<Option<Statement<'a>>, AllocError>
+    ensures { IfOk result (λ statement. option_map statement_meaning statement
+        ≡ pattern_line (NameToken name.entry.now ∷ map token_meaning tokens.now)) }
+{
+    match pattern_words(alloc, tokens)? {
+        None => Ok(None),
+        Some(words) => match Pattern::new(words.as_slice()) {
+            None => Ok(None),
+            Some(pattern) => Ok(Some(Statement::Pattern { name, pattern })),
+        },
+    }
+}
+
+/// `pattern PN HHHH ..`
+pub(crate) fn pattern_line<'a>(
+    alloc: Global,
+    tokens: &[Token<'a>],
+) -> Result<Option<Statement<'a>>, AllocError>
+    ensures { IfOk result (λ statement. option_map statement_meaning statement ≡ pattern_line (map token_meaning tokens.now)) }
+{
+    match tokens {
+        [Token::Name(name), rest @ ..] => pattern_after(alloc, *name, rest),
+        _ => Ok(None),
     }
 }
 

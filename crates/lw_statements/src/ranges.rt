@@ -1,11 +1,12 @@
-ghost use Rattle.std.specs.Prelude.{◌≡◌, pos};
+ghost use Rattle.std.specs.Prelude.{◌≡◌, map, pos};
 ghost use Rattle.std.specs.List.{list_all};
 ghost use Rattle.lw_region.specs.Rectangle.{within};
+ghost use Rattle.lw_area.specs.Polygons.{is_in_range};
 ghost use Rattle.lw_calls.specs.Limits.{is_coordinate, axis_fits, rect_fits, coordinates_fit as places_meant, is_extent};
 ghost use Rattle.lw_grammar.specs.Statements.{is_hook_number, is_own_size, is_new_layer_in_range, place_and_size_fit, is_area_in_range, greatest_number, is_act_in_range, version_at_screen, are_sizes_in_range, is_line_in_range};
-ghost use Rattle.lw_statements.specs.StatementMeaning.{corners_meaning, new_layer_meaning, area_meaning, act_meaning, statement_meaning};
+ghost use Rattle.lw_statements.specs.StatementMeaning.{corners_meaning, new_layer_meaning, area_meaning, act_meaning, statement_meaning, point_meaning};
 
-use crate::statement::{Act, AskedArea, Corners, NewLayer, Statement};
+use crate::statement::{Act, AskedArea, AskedPoint, AskedPolygon, Corners, NewLayer, Statement};
 use lw_calls::{Kind, limits_of};
 use lw_grammar::NumberVerb;
 
@@ -192,6 +193,7 @@ impl Statement<'_> {
             Statement::Call { act, .. } => act.is_in_range(),
             Statement::Layers
             | Statement::Row(_)
+            | Statement::Pattern { .. }
             | Statement::Task(_)
             | Statement::End
             | Statement::Order
@@ -201,5 +203,29 @@ impl Statement<'_> {
             | Statement::Hold
             | Statement::Release => true,
         }
+    }
+}
+
+impl AskedPoint {
+    /// Whether both coordinates are those of a point of an area.
+    fn is_in_range(&self) -> bool
+        ensures { result ≡ is_in_range (point_meaning self.now) }
+    {
+        is_between(-2048, self.x, 4095) && is_between(-2048, self.y, 4095)
+    }
+}
+
+fn are_in_range(points: &[AskedPoint]) -> bool
+    ensures { result ≡ list_all (λ p. is_in_range (point_meaning p)) points.now }
+{
+    points.iter().all(|point| point.is_in_range())
+}
+
+impl AskedPolygon<'_> {
+    /// Whether each coordinate of each point is in its range.
+    pub fn is_in_range(&self) -> bool
+        ensures { result ≡ list_all is_in_range (map point_meaning self.now.points.items) }
+    {
+        are_in_range(self.points.as_slice())
     }
 }

@@ -92,6 +92,7 @@ pub fn is_known_in(version: u32, verb: Verb) -> bool
     match verb {
         Verb::Part(PartVerb::Layers) => version != 1,
         Verb::Number(NumberVerb::Hook) => version >= 2,
+        Verb::Part(PartVerb::Pattern) | Verb::Area | Verb::AreaPattern => version == 2,
         _ => true,
     }
 }
@@ -103,7 +104,7 @@ pub fn belongs_in(form: Form, version: u32, section: Section, verb: Verb) -> boo
     match verb {
         Verb::Part(PartVerb::Layers) => section.is_screen() && version == 0,
         Verb::Part(PartVerb::Screen) => section.is_screen(),
-        Verb::Part(PartVerb::Glyph | PartVerb::Bitmap) => section.is_assets(),
+        Verb::Part(PartVerb::Glyph | PartVerb::Bitmap | PartVerb::Pattern) => section.is_assets(),
         Verb::Part(PartVerb::Task) => section.is_assets() || section.is_tasks(),
         Verb::Part(PartVerb::Order) => section.is_tasks() && is_ordered(form),
         Verb::Part(PartVerb::Report) => section.is_tasks() && is_audited(form),

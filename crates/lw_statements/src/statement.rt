@@ -1,5 +1,7 @@
+ghost use Rattle.std.specs.Prelude.{◌≤◌, length};
 ghost use Rattle.lw_statements.specs.OwnBits.{FitKind};
 
+use lw_area::Pattern;
 use lw_calls::{Kind, PairOp, Place, RectOp};
 use lw_grammar::{BareVerb, NumberVerb, PairVerb, TextVerb};
 use lw_words::Digits;
@@ -128,7 +130,7 @@ pub enum Layers<'a> {
     Two(&'a [u8], &'a [u8]),
 }
 
-/// What a line of a script says, if it isn't skipped. Names, texts and digits stand in the input.
+/// What a line of a script says that stands for itself. Names, texts and digits stand in the input.
 #[derive(Drop)]
 pub enum Statement<'a> {
     /// The script has version 2.
@@ -152,6 +154,11 @@ pub enum Statement<'a> {
     },
     /// The digits of a row of a bitmap.
     Row(Digits<'a>),
+    /// An area pattern.
+    Pattern {
+        name: &'a [u8],
+        pattern: Pattern,
+    },
     /// A task begins.
     Task(&'a [u8]),
     /// A task ends.
@@ -170,6 +177,31 @@ pub enum Statement<'a> {
     Unlock(&'a [u8]),
     Hold,
     Release,
+}
+
+/// A point of an area, in the line's own numbers.
+#[derive(Clone, Copy)]
+pub struct AskedPoint {
+    pub x: i64,
+    pub y: i64,
+}
+
+/// An area as a line has it: on a layer, with the pattern of this name, or with none, and of 3 to 32 points.
+#[derive(Drop)]
+pub struct AskedPolygon<'a> {
+    pub layer: &'a [u8],
+    pub pattern: Option<&'a [u8]>,
+    pub points: Vec<AskedPoint>,
+    ghost least: { 3 ≤ length points.items },
+    ghost most: { length points.items ≤ 32 },
+}
+
+/// What a line of a script says, if it isn't skipped.
+#[derive(Drop)]
+pub enum Line<'a> {
+    Statement(Statement<'a>),
+    /// An area, which stands for several statements.
+    Area(AskedPolygon<'a>),
 }
 
 impl<'a> Statement<'a> {

@@ -14,6 +14,7 @@ fn verb_word(verb: Verb) -> &'static [u8]
         Verb::Part(PartVerb::Screen) => b"screen",
         Verb::Part(PartVerb::Glyph) => b"glyph",
         Verb::Part(PartVerb::Bitmap) => b"bitmap",
+        Verb::Part(PartVerb::Pattern) => b"pattern",
         Verb::Part(PartVerb::Task) => b"task",
         Verb::Part(PartVerb::End) => b"end",
         Verb::Part(PartVerb::Order) => b"order",
@@ -63,6 +64,8 @@ fn verb_word(verb: Verb) -> &'static [u8]
         Verb::Put => b"put",
         Verb::Blit => b"blit",
         Verb::EndRefresh => b"endrefresh",
+        Verb::Area => b"area",
+        Verb::AreaPattern => b"areapat",
     }
 }
 
@@ -94,6 +97,8 @@ fn verbs_with(first: u8) -> &'static [Verb]
             Verb::Pair(PairVerb::At),
             Verb::Rect(RectOp::And),
             Verb::Region(PairOp::And),
+            Verb::Area,
+            Verb::AreaPattern,
         ],
         b'b' => &[
             Verb::Part(PartVerb::Bitmap),
@@ -127,7 +132,7 @@ fn verbs_with(first: u8) -> &'static [Verb]
             Verb::Region(PairOp::Or),
             Verb::Open,
         ],
-        b'p' => &[Verb::Put],
+        b'p' => &[Verb::Part(PartVerb::Pattern), Verb::Put],
         b'r' => &[
             Verb::Part(PartVerb::Report),
             Verb::Part(PartVerb::Release),

@@ -1,10 +1,10 @@
 use Rattle.std.proofs.Common.{List, ℕ, Result, Ok, sym, ap, subst, ◌∙◌}
 use Rattle.lw_grammar.specs.declared.reason.Reason.{Reason}
 use Rattle.lw_grammar.specs.Demands.{◌>>=◌}
-use Rattle.lw_grammar.specs.Script.{statement_of}
+use Rattle.lw_grammar.specs.Script.{line_of_words}
 use Rattle.lw_words.proofs.Binds.{stops_before}
 use Rattle.lw_words.specs.Cuts.{targets}
-use Rattle.lw_statements.specs.LineReading.{Reads}
+use Rattle.lw_script.specs.AreasRead.{ReadsBelow}
 use Rattle.lw_script.specs.ReaderKnows.{known, setting_of}
 use Rattle.lw_script.proofs.state.Reader.line.Goals as goal
 
@@ -13,5 +13,5 @@ returns-in-Err c = stops_before c.in-Err.stop _ _ c.in-Err.ensures.stopped
 
 pub returns-in-Ok : goal.returns-in-Ok
 returns-in-Ok c =
-    let P : Result (List (List ℕ)) Reason → Type 0 = λ o. Reads c.words_line.result (o >>= statement_of (setting_of c.args.self.now) (known c.args.self.now)) in
+    let P : Result (List (List ℕ)) Reason → Type 0 = λ o. ReadsBelow (known c.args.self.now) c.words_line.result (o >>= line_of_words (setting_of c.args.self.now) (known c.args.self.now)) in
     subst P (sym (c.in-Ok.ensures.found ∙ ap (λ ws. Ok (targets ws)) (sym c.as_slice.ensures.value))) c.words_line.ensures

@@ -23,17 +23,19 @@ returns c =
         due = refl;
         begun = λ h. absurd (omega arith);
         bitmaps = λ rows none. rw c.new-2.ensures.items refl;
+        pattern_names = ap targets c.new-4.ensures.empty;
+        patterns = c.new-5.ensures.items;
       };
       tasks = record {
-        tasks = ap targets c.new-4.ensures.empty;
-        names = ap targets c.new-5.ensures.empty;
+        tasks = ap targets c.new-6.ensures.empty;
+        names = ap targets c.new-7.ensures.empty;
         supers = refl;
-        used = λ n. rw c.new-6.ensures.empty refl;
+        used = λ n. rw c.new-8.ensures.empty refl;
         group = refl;
         began = refl;
         so_far = refl;
-        calls = rw c.new-7.ensures.items refl;
-        groups = rw c.new-8.ensures.items refl;
+        calls = rw c.new-9.ensures.items refl;
+        groups = rw c.new-10.ensures.items refl;
       };
-      order = c.new-9.ensures.items;
+      order = c.new-11.ensures.items;
     }

@@ -3,10 +3,11 @@ use Rattle.std.proofs.Common.{◌≡◌, ℕ, ◌*◌, ◌≤◌, ◌==◌, Bool
 use Rattle.std.specs.List.{list_all, onto_first}
 use Rattle.lw_grammar.specs.declared.reason.Reason.TheVariants.{LineTooLong, BadByte, Spacing, Quote}
 use Rattle.lw_grammar.specs.Demands.{◌>>=◌, demand}
-use Rattle.lw_grammar.specs.Tokens.{ends_text, on_found, tokens_at, NameToken, NumberToken, TextToken, OddToken, is_a_text, is_a_name, is_a_number, value_of_number, without_last, token_of}
+use Rattle.lw_grammar.specs.Tokens.{ends_text, on_found, tokens_at, NameToken, NumberToken, TextToken, OddToken, is_a_letter, is_in_name, is_a_text, is_a_name, is_a_number, value_of_number, without_last, token_of}
 use Rattle.lw_grammar.specs.Script.{line_limit, is_printable, words_read}
 use Rattle.lw_canonical.specs.Spelling.{joined}
 use Rattle.std.proofs.lemmas.Bool.{false≢true, leb-true, le-leb, ne_eqb, and_parts, and_from, not-true}
+use Rattle.std.proofs.lemmas.Bool.Decides.{nat_tests}
 use Rattle.std.proofs.lemmas.List.Folds.{list_all-append}
 
 -- a byte of a line that is neither a space nor a quote
@@ -88,7 +89,39 @@ words_read_back w ws h few =
     let words = split w ws h in
     λ i. demand (long i) LineTooLong >>= (λ _. demand (k.0 i) BadByte >>= (λ _. words i))
 
--- a name is a name
+-- a name is a name, and is a plain word
 pub name_token : (w : List ℕ) → is_a_text w ≡ false → is_a_name w ≡ true → token_of w ≡ NameToken w
 name_token w a b =
     λ i. cond (a i) (TextToken (without_last (drop 1 w))) (cond (b i) (NameToken w) (cond (is_a_number w) (NumberToken w (value_of_number w)) (OddToken w)))
+
+letter_plain : (b : ℕ) → is_a_letter b ≡ true → is_plain_byte b ≡ true
+letter_plain b h = grind (arith, nat_tests)
+
+name_byte_plain : (b : ℕ) → is_in_name b ≡ true → is_plain_byte b ≡ true
+name_byte_plain b h = grind (arith, nat_tests)
+
+name_bytes_plain : (bs : List ℕ) → list_all is_in_name bs ≡ true → list_all is_plain_byte bs ≡ true
+name_bytes_plain [] h = refl
+name_bytes_plain (b ∷ bs) h =
+    let k = and_parts (is_in_name b) (list_all is_in_name bs) h in
+    and_from (is_plain_byte b) (list_all is_plain_byte bs) (name_byte_plain b k.0) (name_bytes_plain bs k.1)
+
+name_is_plain : (w : List ℕ) → is_a_name w ≡ true → is_plain w ≡ true
+name_is_plain [] h = absurd (false≢true h)
+name_is_plain (b ∷ bs) h =
+    let k = and_parts (is_a_letter b && list_all is_in_name bs) (nat_le (length bs) 15) h in
+    let m = and_parts (is_a_letter b) (list_all is_in_name bs) k.0 in
+    and_from _ _ (and_from (is_plain_byte b) (list_all is_plain_byte bs) (letter_plain b m.0) (name_bytes_plain bs m.1)) k.1
+
+-- a word that reads as a name is one
+token_is_name : (w : List ℕ) → token_of w ≡ NameToken w → is_a_name w ≡ true
+token_is_name w h = go (is_a_text w) (is_a_name w) refl (is_a_number w) h
+  where
+    go : (t n : Bool) → is_a_name w ≡ n → (m : Bool) → cond t (TextToken (without_last (drop 1 w))) (cond n (NameToken w) (cond m (NumberToken w (value_of_number w)) (OddToken w))) ≡ NameToken w → is_a_name w ≡ true
+    go true n d m e = absurd (cc)
+    go false true d m e = d
+    go false false d true e = absurd (cc)
+    go false false d false e = absurd (cc)
+
+pub name_plain : (w : List ℕ) → token_of w ≡ NameToken w → is_plain w ≡ true
+name_plain w h = name_is_plain w (token_is_name w h)

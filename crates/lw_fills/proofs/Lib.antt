@@ -1,0 +1,2 @@
+mod OneDrawing
+mod LineFills
