@@ -1,0 +1,9 @@
+mod ScriptLines
+mod NamesKept
+mod FirstBad
+mod LinesPass
+mod OrderFew
+mod SceneSteps
+mod SceneAdded
+mod Showable
+pub mod Computing

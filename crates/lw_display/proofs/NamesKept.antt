@@ -1,0 +1,26 @@
+-- Names that are kept as references.
+use Rattle.std.proofs.Common.{◌≡◌, ℕ, ◌≤◌, Bool, false, not, cond, List, [], ◌∷◌, ◌++◌, length, position, Some, None, bytes_eq, Bor, refl, ◌∙◌, arith}
+use Rattle.std.specs.List.{list_any, position_or_len}
+use Rattle.lw_words.specs.Cuts.{targets}
+use Rattle.lw_words.proofs.Targets.{targets_push, any_target, place_of_target}
+use Rattle.std.proofs.lemmas.Grind.{common_steps}
+use Rattle.std.proofs.lemmas.List.Sums.{prefix_len-le-length}
+
+-- a place that is found is the first one
+pub found : (p : List ℕ → Bool) (ks : List (Bor (List ℕ))) (i : ℕ) → position (λ k. p k.now) ks ≡ Some i → i ≡ position_or_len p (targets ks)
+found p ks i e = let at : i ≡ position_or_len (λ k. p k.now) ks = grind (arith, common_steps) in at ∙ place_of_target p ks
+
+-- where none is found, the place is after all
+pub absent : (p : List ℕ → Bool) (ks : List (Bor (List ℕ))) → position (λ k. p k.now) ks ≡ None → length ks ≡ position_or_len p (targets ks)
+absent p ks e =
+    let most : position_or_len (λ k. p k.now) ks ≤ length ks = prefix_len-le-length (λ k. not (p k.now)) ks in
+    let least : length ks ≤ position_or_len (λ k. p k.now) ks = grind (arith, common_steps) in
+    let past : length ks ≡ position_or_len (λ k. p k.now) ks = omega (arith, most, least) in
+    past ∙ place_of_target p ks
+
+-- a new name that is put in stands at the end
+pub keys_added : (ks : List (Bor (List ℕ))) (k : Bor (List ℕ)) → list_any (bytes_eq k.now) (targets ks) ≡ false → cond (list_any (λ (j : Bor (List ℕ)). bytes_eq k.now j.now) ks) ks (ks ++ k ∷ []) ≡ ks ++ k ∷ []
+keys_added ks k new = let e : list_any (λ (j : Bor (List ℕ)). bytes_eq k.now j.now) ks ≡ false = any_target (bytes_eq k.now) ks ∙ new in rw e refl
+
+pub name_added : (ks : List (Bor (List ℕ))) (k : Bor (List ℕ)) → list_any (bytes_eq k.now) (targets ks) ≡ false → targets (cond (list_any (λ (j : Bor (List ℕ)). bytes_eq k.now j.now) ks) ks (ks ++ k ∷ [])) ≡ targets ks ++ k.now ∷ []
+name_added ks k new = let e : list_any (λ (j : Bor (List ℕ)). bytes_eq k.now j.now) ks ≡ false = any_target (bytes_eq k.now) ks ∙ new in rw e (targets_push ks k)
