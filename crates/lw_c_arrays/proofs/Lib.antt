@@ -1,0 +1,2 @@
+mod ArrayPixels
+mod AroundLaws

@@ -1,0 +1,4 @@
+pub mod Lists
+pub mod Combined
+pub mod Answers
+pub mod Rows
