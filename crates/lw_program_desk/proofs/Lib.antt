@@ -1,0 +1,2 @@
+mod TilesLaws
+mod StepLaws

@@ -1,0 +1,43 @@
+-- A program's desk as contracts see it.
+use Rattle.std.specs.Prelude.{◌≡◌, ℕ, Bool, ◌&&◌, nat_le, List, Option, Some}
+use Rattle.lw_region.specs.Rectangle.{Rectangle}
+use Rattle.lw_calls.specs.Assets.{Assets}
+use Rattle.lw_calls.specs.declared.sizes.Sizes.{Sizes}
+use Rattle.lw_calls.specs.Limits.{IsWithinLimits}
+use Rattle.lw_machine.specs.Desk.{Desk}
+use Rattle.lw_layer.specs.View.{CellView}
+use Rattle.lw_engine.specs.Layers.{InfoView, layer_relations}
+use Rattle.lw_runs.specs.Standing.{StandForDesk}
+
+-- the parts of a desk: LayerInfo, the cells of all slots, and the registers of the one task
+pub record PartsView : Type 0 where
+  pub info : InfoView
+  pub cells : List CellView
+  pub registers : List (List (List Rectangle))
+
+-- the desk: what it was opened with, and its parts, which it always holds between calls
+pub record DeskView : Type 0 where
+  pub sizes : Sizes
+  pub assets : Assets
+  pub held : Option PartsView
+
+-- the parts stand for this desk of the machine
+abbrev pub PartsAre : Sizes → Assets → PartsView → Desk → Type 0
+PartsAre sizes assets p d = StandForDesk layer_relations sizes assets p.info p.cells p.registers d
+
+-- it stands for this desk of the machine
+pub record StandsFor (v : DeskView) (d : Desk) : Type 0 where
+  pub parts : PartsView
+  pub held : v.held ≡ Some parts
+  pub stand : PartsAre v.sizes v.assets parts d
+
+-- It stands for some desk, with sizes that a desk may have and one task.
+pub record IsKept (v : DeskView) : Type 0 where
+  pub desk : Desk
+  pub stands : StandsFor v desk
+  pub limits : IsWithinLimits v.sizes
+  pub task : v.sizes.tasks ≡ 1
+
+-- For private contracts: a number from 1 to `most`.
+abbrev pub is_from_one : ℕ → ℕ → Bool
+is_from_one n most = nat_le 1 n && nat_le n most

@@ -1,0 +1,146 @@
+ghost use Rattle.std.specs.Prelude.{◌≡◌, false, map, List, IsTrue, IsOk, IfOk, OnErr, IsErrOf, ◌↔◌};
+ghost use Rattle.lw_calls.specs.Limits.{IsWithinLimits, call_fits};
+ghost use Rattle.lw_machine.specs.Desk.{Desk as MachineDesk, empty_desk, shelf_of};
+ghost use Rattle.lw_machine.specs.Step.{after, reply};
+ghost use Rattle.lw_engine_trait.specs.Memory.{takes_memory};
+ghost use Rattle.lw_program_desk.specs.Views.{DeskView, StandsFor, PartsAre};
+ghost use Rattle.lw_program_desk.specs.Standing.{IsStep, StandsStill};
+
+use crate::held::{AfterStep, Held, make_step};
+use crate::tiles::Tiles;
+use lw_backfill::Backfill;
+use lw_calls::{Assets, Call, Reply, Sizes};
+use lw_engine::LayerEngine;
+use lw_runs::Parts;
+use std::alloc::{AllocError, Global};
+use std::marker::Model;
+
+/// A desk of one caller, with what it was opened with. Contracts see it as the desks of the machine for which it stands.
+#[derive(Drop)]
+pub struct ProgramDesk {
+    sizes: Sizes,
+    assets: Assets,
+    // Always there between calls: a call takes the parts, and puts them back.
+    held: Option<Held>,
+}
+
+impl Model for ProgramDesk {
+    ghost use Rattle.lw_program_desk.specs.Views.{DeskView, IsKept};
+
+    ghost Value = { DeskView };
+
+    ghost view = { λ p. record { sizes = p.sizes; assets = p.assets; held = p.held } };
+
+    ghost invariant = { λ p. IsKept (record { sizes = p.sizes; assets = p.assets; held = p.held }) };
+}
+
+impl ProgramDesk {
+    /// The desk before the first call, with these glyphs and bitmaps, and with these hooks on the shelf, in their order. It fails
+    /// only when out of memory.
+    pub fn open(
+        alloc: Global,
+        sizes: Sizes,
+        assets: Assets,
+        hooks: Vec<Tiles>,
+    ) -> Result<ProgramDesk, AllocError>
+        requires limits { IsWithinLimits sizes }
+        requires task { sizes.tasks ≡ 1 }
+        ensures sizes { IfOk result (λ made. made.sizes ≡ sizes) }
+        ensures desk { IfOk result (λ made. StandsFor made
+            (empty_desk sizes assets (shelf_of (map (λ h. ⟦<Tiles as Backfill>⟧.hook h) hooks.items)))) }
+    {
+        let held = opened(alloc, sizes, &assets, hooks)?;
+        Ok(ProgramDesk {
+            sizes,
+            assets,
+            held: Some(held),
+        })
+    }
+
+    /// The sizes that it was opened with.
+    pub fn sizes(&self) -> &Sizes
+        ensures { result.now ≡ self.now.sizes }
+    {
+        &self.sizes
+    }
+
+    /// Makes one call, which has to fit the sizes, and gives its reply. A call that takes no memory can't fail; any other fails
+    /// only when out of memory, and the desk then stands for what it stood for.
+    pub fn call(&mut self, alloc: Global, call: &Call) -> Result<Reply, AllocError>
+        requires fits { IsTrue (call_fits self.old.sizes call.now) }
+        ensures step { IfOk result (λ r. IsStep self.old call.now r self.new) }
+        ensures unchanged { OnErr result (StandsStill self.old self.new) }
+        ensures sizes { self.new.sizes ≡ self.old.sizes }
+        ensures memory { takes_memory call.now ≡ false → IsOk result }
+    {
+        let Some(held) = self.held.take() else {
+            unreachable!();
+        };
+        let AfterCall { held, told } = make_call(alloc, self.sizes, &self.assets, held, call);
+        self.held = Some(held);
+        told
+    }
+}
+
+// The parts before the first call.
+fn opened(
+    alloc: Global,
+    sizes: Sizes,
+    assets: &Assets,
+    hooks: Vec<Tiles>,
+) -> Result<Held, AllocError>
+    requires limits { IsWithinLimits sizes }
+    ensures { IfOk result (λ h. PartsAre sizes assets.now h
+        (empty_desk sizes assets.now (shelf_of (map (λ k. ⟦<Tiles as Backfill>⟧.hook k) hooks.items)))) }
+{
+    let engine = LayerEngine::<Tiles>::new(sizes, assets);
+    let opened = engine.open(alloc, hooks)?;
+    Ok(Held {
+        info: opened.info,
+        cells: opened.slots,
+        registers: opened.registers,
+    })
+}
+
+// What a call leaves of the parts, and its reply, or that memory ran out.
+#[derive(Drop)]
+struct AfterCall {
+    held: Held,
+    told: Result<Reply, AllocError>,
+}
+
+// Makes a call on the parts.
+fn make_call(alloc: Global, sizes: Sizes, assets: &Assets, held: Held, call: &Call) -> AfterCall
+    requires fits { IsTrue (call_fits sizes call.now) }
+    requires task { sizes.tasks ≡ 1 }
+    requires desk { (d : MachineDesk) × PartsAre sizes assets.now held d }
+    ensures step { IfOk result.told (λ r. (d : MachineDesk) → PartsAre sizes assets.now held d
+        → (r ≡ reply d 0 call.now) × PartsAre sizes assets.now result.held (after d 0 call.now)) }
+    ensures unchanged { OnErr result.told ((d : MachineDesk) → PartsAre sizes assets.now held d
+        → PartsAre sizes assets.now result.held d) }
+    ensures memory { takes_memory call.now ≡ false → IsOk result.told }
+{
+    let engine = LayerEngine::<Tiles>::new(sizes, assets);
+    let Held {
+        info,
+        cells,
+        registers,
+    } = held;
+    let parts = Parts {
+        info,
+        cells,
+        registers,
+    };
+    let AfterStep { parts, told } = make_step(alloc, &engine, parts, call);
+    let Parts {
+        info,
+        cells,
+        registers,
+    } = parts;
+    let held = Held {
+        info,
+        cells,
+        registers,
+    };
+    AfterCall { held, told }
+}
