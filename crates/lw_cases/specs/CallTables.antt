@@ -32,14 +32,16 @@ window_of make = OpenWindow 0 make false false 0 []
 abbrev pub on_one_layer : List (ℕ → Call)
 on_one_layer =
     (λ s. SetA s 1) ∷ (λ s. SetB s 1) ∷ (λ s. SetMode s 1) ∷ (λ s. SetMask s 1) ∷ (λ s. At s (pos 1) (pos 1)) ∷
-    (λ s. WritePixel s (pos 1) (pos 1)) ∷ (λ s. ReadPixel s (pos 1) (pos 1)) ∷ (λ s. Fill s corner) ∷ (λ s. DrawTo s (pos 1) (pos 1)) ∷
+    (λ s. WritePixel s (pos 1) (pos 1)) ∷ (λ s. ReadPixel s (pos 1) (pos 1)) ∷ (λ s. Fill s corner) ∷
+    (λ s. DrawTo s (pos 1) (pos 1)) ∷
     (λ s. Letters s (codes "A")) ∷ (λ s. SetRast s 1) ∷ (λ s. ScrollRaster s (pos 1) (pos 1) corner) ∷ (λ s. Put 0 s one_pixel) ∷
     (λ s. Blit s s one_pixel) ∷ (λ s. Clip s 0) ∷ (λ s. Unclip s) ∷ (λ s. BeginRefresh s) ∷ (λ s. EndRefresh s true) ∷
     (λ s. Scroll s (pos 1) (pos 1)) ∷ (λ s. SetTitle s (codes "A")) ∷ (λ s. TakeMessage s) ∷ []
 
 abbrev pub arrangements : List (ℕ → Call)
 arrangements =
-    (λ s. Create s (box Smart 0 0 1 1)) ∷ (λ s. OpenWindow s (box Smart 0 0 1 1) false false 0 []) ∷ (λ s. Close s) ∷ (λ s. ToFront s) ∷
+    (λ s. Create s (box Smart 0 0 1 1)) ∷ (λ s. OpenWindow s (box Smart 0 0 1 1) false false 0 []) ∷ (λ s. Close s) ∷
+    (λ s. ToFront s) ∷
     (λ s. ToBack s) ∷ (λ s. InFrontOf s 0) ∷ (λ s. MoveBy s (pos 1) (pos 1)) ∷ (λ s. SizeBy s (pos 1) (pos 1)) ∷
     (λ s. SetBox s (pos 0) (pos 0) (pos 1) (pos 1)) ∷ (λ s. Activate s) ∷ []
 
@@ -50,8 +52,10 @@ beside_slot_0 = (λ s. InFrontOf 0 s) ∷ (λ s. Blit 0 s one_pixel) ∷ (λ s. 
 -- the calls with two coordinates or steps
 abbrev pub at_a_pair : List (ℤ → ℤ → Call)
 at_a_pair =
-    (λ x y. layer_of (record (box Smart 0 0 1 1) { x = x; y = y })) ∷ (λ x y. window_of (record (box Smart 0 0 1 1) { x = x; y = y })) ∷
-    (λ x y. MoveBy 0 x y) ∷ (λ x y. SizeBy 0 x y) ∷ (λ x y. SetBox 0 x y (pos 1) (pos 1)) ∷ (λ x y. Which x y) ∷ (λ x y. At 0 x y) ∷
+    (λ x y. layer_of (record (box Smart 0 0 1 1) { x = x; y = y })) ∷
+    (λ x y. window_of (record (box Smart 0 0 1 1) { x = x; y = y })) ∷
+    (λ x y. MoveBy 0 x y) ∷ (λ x y. SizeBy 0 x y) ∷ (λ x y. SetBox 0 x y (pos 1) (pos 1)) ∷ (λ x y. Which x y) ∷
+    (λ x y. At 0 x y) ∷
     (λ x y. WritePixel 0 x y) ∷ (λ x y. ReadPixel 0 x y) ∷ (λ x y. DrawTo 0 x y) ∷ (λ x y. ScrollRaster 0 x y corner) ∷
     (λ x y. Put 0 0 (record one_pixel { sx = x; sy = y })) ∷ (λ x y. Put 0 0 (record one_pixel { x = x; y = y })) ∷
     (λ x y. Blit 0 0 (record one_pixel { sx = x; sy = y })) ∷ (λ x y. Blit 0 0 (record one_pixel { x = x; y = y })) ∷
@@ -65,7 +69,8 @@ of_a_size =
 
 abbrev pub made_of_a_size : List (ℤ → ℤ → Call)
 made_of_a_size =
-    (λ w h. layer_of (record (box Simple 0 0 1 1) { w = w; h = h })) ∷ (λ w h. window_of (record (box Smart 0 0 1 1) { w = w; h = h })) ∷
+    (λ w h. layer_of (record (box Simple 0 0 1 1) { w = w; h = h })) ∷
+    (λ w h. window_of (record (box Smart 0 0 1 1) { w = w; h = h })) ∷
     (λ w h. layer_of (record own_pixel { w = w; h = h })) ∷ []
 
 -- those with a rectangle
@@ -81,7 +86,8 @@ with_a_byte = (λ p. SetA 0 p) ∷ (λ p. SetB 0 p) ∷ (λ p. SetMask 0 p) ∷ 
 -- those with a register, of which pairs have two
 abbrev pub with_a_register : List (ℕ → Call)
 with_a_register =
-    (λ r. RegRect Or r corner) ∷ (λ r. RegPair OrPair r 0) ∷ (λ r. RegPair AndPair 0 r) ∷ (λ r. RegPair XorPair r r) ∷ (λ r. RegClear r) ∷
+    (λ r. RegRect Or r corner) ∷ (λ r. RegPair OrPair r 0) ∷ (λ r. RegPair AndPair 0 r) ∷ (λ r. RegPair XorPair r r) ∷
+    (λ r. RegClear r) ∷
     (λ r. Clip 0 r) ∷ []
 
 -- those with a minterm
@@ -91,13 +97,16 @@ with_a_minterm = (λ m. Put 0 0 (record one_pixel { minterm = m })) ∷ (λ m. B
 -- those with a hook
 abbrev pub with_a_hook : List (ℕ → Call)
 with_a_hook =
-    (λ n. layer_of (record (box Simple 0 0 1 1) { hook = Some n })) ∷ (λ n. layer_of (record (box Smart 0 0 1 1) { hook = Some n })) ∷
-    (λ n. window_of (record (box Simple 0 0 1 1) { hook = Some n })) ∷ (λ n. window_of (record (box Smart 0 0 1 1) { hook = Some n })) ∷ []
+    (λ n. layer_of (record (box Simple 0 0 1 1) { hook = Some n })) ∷
+    (λ n. layer_of (record (box Smart 0 0 1 1) { hook = Some n })) ∷
+    (λ n. window_of (record (box Simple 0 0 1 1) { hook = Some n })) ∷
+    (λ n. window_of (record (box Smart 0 0 1 1) { hook = Some n })) ∷ []
 
 -- those with a layer whose bitmap has this width and height: a super-bitmap layer, and a layer of another kind
 abbrev pub with_own_bitmap : List (ℕ → ℕ → Call)
 with_own_bitmap =
-    (λ w h. layer_of (record own_pixel { bits_w = w; bits_h = h })) ∷ (λ w h. window_of (record own_pixel { bits_w = w; bits_h = h })) ∷ []
+    (λ w h. layer_of (record own_pixel { bits_w = w; bits_h = h })) ∷
+    (λ w h. window_of (record own_pixel { bits_w = w; bits_h = h })) ∷ []
 
 abbrev pub with_a_bitmap_of_none : List (ℕ → ℕ → Call)
 with_a_bitmap_of_none =

@@ -45,7 +45,8 @@ line_complemented = further line_drawn (SetMode 0 2 ∷ At 0 (pos 2) (pos 1) ∷
 
 abbrev pub line_complemented_report : List ℕ
 line_complemented_report =
-    text (codes "order 6/0 0 0 0 0 0/planes 16 2 1/plane 0/4000/4000/visible w 1/0 0 15 1/damage w 0/" ++ codes "replies a 6/ok/ok/ok/ok/ok/ok/done/")
+    text (codes "order 6/0 0 0 0 0 0/planes 16 2 1/plane 0/4000/4000/visible w 1/0 0 15 1/damage w 0/"
+    ++ codes "replies a 6/ok/ok/ok/ok/ok/ok/done/")
 
 -- the same once more
 abbrev pub line_complemented_twice : Plan
@@ -53,22 +54,26 @@ line_complemented_twice = further line_complemented (At 0 (pos 2) (pos 1) ∷ Dr
 
 abbrev pub line_complemented_twice_report : List ℕ
 line_complemented_twice_report =
-    text (codes "order 8/0 0 0 0 0 0 0 0/planes 16 2 1/plane 0/8000/6000/visible w 1/0 0 15 1/damage w 0/" ++ codes "replies a 8/ok/ok/ok/ok/ok/ok/ok/ok/done/")
+    text (codes "order 8/0 0 0 0 0 0 0 0/planes 16 2 1/plane 0/8000/6000/visible w 1/0 0 15 1/damage w 0/"
+    ++ codes "replies a 8/ok/ok/ok/ok/ok/ok/ok/ok/done/")
 
 -- the letter A in the mode JAM2, and beside it once more in the mode JAM2 with INVERSVID
 abbrev pub inverse_text : Plan
 inverse_text =
     with_glyph 65 (24 ∷ 60 ∷ 102 ∷ 102 ∷ 126 ∷ 102 ∷ 102 ∷ 0 ∷ [])
-    (one_task 16 8 1 (codes "w" ∷ []) (create 0 Smart 0 0 15 7 ∷ At 0 (pos 0) (pos 6) ∷ Letters 0 (codes "A") ∷ SetMode 0 5 ∷ Letters 0 (codes "A") ∷ []))
+    (one_task 16 8 1 (codes "w" ∷ []) (create 0 Smart 0 0 15 7 ∷ At 0 (pos 0) (pos 6) ∷ Letters 0 (codes "A") ∷
+    SetMode 0 5 ∷ Letters 0 (codes "A") ∷ []))
 
 abbrev pub inverse_text_report : List ℕ
 inverse_text_report =
-    text (codes "order 5/0 0 0 0 0/planes 16 8 1/plane 0/18e7/3cc3/6699/6699/7e81/6699/6699/00ff/" ++ codes "visible w 1/0 0 15 7/damage w 0/replies a 5/ok/ok/ok/ok/ok/done/")
+    text (codes "order 5/0 0 0 0 0/planes 16 8 1/plane 0/18e7/3cc3/6699/6699/7e81/6699/6699/00ff/"
+    ++ codes "visible w 1/0 0 15 7/damage w 0/replies a 5/ok/ok/ok/ok/ok/done/")
 
 -- a row that is blitted onto itself one column further right
 abbrev pub blit_right : Plan
 blit_right =
-    one_task 16 1 1 (codes "w" ∷ []) (create 0 Smart 0 0 7 0 ∷ fill 0 0 0 1 0 ∷ WritePixel 0 (pos 3) (pos 0) ∷ blit_row 0 0 1 7 192 ∷ [])
+    one_task 16 1 1 (codes "w" ∷ []) (create 0 Smart 0 0 7 0 ∷ fill 0 0 0 1 0 ∷ WritePixel 0 (pos 3) (pos 0) ∷
+    blit_row 0 0 1 7 192 ∷ [])
 
 abbrev pub blit_right_report : List ℕ
 blit_right_report =
@@ -88,4 +93,5 @@ blit_away = further blit_left (blit_row 0 0 0 8 96 ∷ [])
 
 abbrev pub blit_away_report : List ℕ
 blit_away_report =
-    text (codes "order 6/0 0 0 0 0 0/planes 16 1 1/plane 0/0000/visible w 1/0 0 7 0/damage w 0/" ++ codes "replies a 6/ok/ok/ok/ok/ok/ok/done/")
+    text (codes "order 6/0 0 0 0 0 0/planes 16 1 1/plane 0/0000/visible w 1/0 0 7 0/damage w 0/"
+    ++ codes "replies a 6/ok/ok/ok/ok/ok/ok/done/")

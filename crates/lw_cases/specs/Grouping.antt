@@ -36,4 +36,5 @@ three_fills = fill_first 0 ∷ fill_first 0 ∷ fill_first 0 ∷ []
 -- the worked plans of arrangements and damage
 abbrev pub arrangement_plans : List Plan
 arrangement_plans =
-    placed_by_rows ∷ windows_opened ∷ widened_in_clip ∷ served_by_another ∷ drawn_by_another ∷ opened_by_the_second ∷ frame_resized ∷ frame_and_inner_uncovered ∷ activity_passed_on ∷ grown_while_active ∷ damage_beside ∷ []
+    placed_by_rows ∷ windows_opened ∷ widened_in_clip ∷ served_by_another ∷ drawn_by_another ∷ opened_by_the_second ∷
+    frame_resized ∷ frame_and_inner_uncovered ∷ activity_passed_on ∷ grown_while_active ∷ damage_beside ∷ []

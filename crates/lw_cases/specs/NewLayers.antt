@@ -13,11 +13,14 @@ use Rattle.lw_cases.specs.Modes.{with_low_letter}
 -- from column 8 on, by the pens, the mode and the mask that are there.
 abbrev pub new_layer_drawn : Plan
 new_layer_drawn =
-    with_low_letter (one_task 16 2 8 (codes "w" ∷ []) (create 0 Smart 0 0 15 1 ∷ SetRast 0 255 ∷ DrawTo 0 (pos 2) (pos 0) ∷ At 0 (pos 8) (pos 0) ∷ Letters 0 (codes "A") ∷ []))
+    with_low_letter (one_task 16 2 8 (codes "w" ∷ []) (create 0 Smart 0 0 15 1 ∷ SetRast 0 255 ∷ DrawTo 0 (pos 2) (pos 0) ∷
+    At 0 (pos 8) (pos 0) ∷ Letters 0 (codes "A") ∷ []))
 
 abbrev pub new_layer_drawn_report : List ℕ
 new_layer_drawn_report =
-    text (codes "order 5/0 0 0 0 0/planes 16 2 8/plane 0/ffcc/ff0f/plane 1/1f00/ff00/plane 2/1f00/ff00/plane 3/1f00/ff00/plane 4/1f00/ff00/" ++ codes "plane 5/1f00/ff00/plane 6/1f00/ff00/plane 7/1f00/ff00/visible w 1/0 0 15 1/damage w 0/" ++ codes "replies a 5/ok/ok/ok/ok/ok/done/")
+    text (codes "order 5/0 0 0 0 0/planes 16 2 8/plane 0/ffcc/ff0f/plane 1/1f00/ff00/plane 2/1f00/ff00/plane 3/"
+    ++ codes "1f00/ff00/plane 4/1f00/ff00/" ++ codes "plane 5/1f00/ff00/plane 6/1f00/ff00/plane 7/1f00/ff00/"
+    ++ codes "visible w 1/0 0 15 1/damage w 0/" ++ codes "replies a 5/ok/ok/ok/ok/ok/done/")
 
 -- a hook of pen 3
 abbrev pub third_pen : List Hook
@@ -29,8 +32,13 @@ abbrev pub pens_read : Plan
 pens_read =
     with_bitmap (codes "deep") deep_row
     (with_hooks third_pen
-    (one_task 16 14 1 (codes "w" ∷ []) (OpenWindow 0 (record (box Smart 0 0 9 14) { hook = Some 0 }) true false 0 [] ∷ ReadPixel 0 (pos 4) (pos 11) ∷ ReadPixel 0 (pos 0) (pos 0) ∷ SetA 0 6 ∷ fill 0 4 11 4 11 ∷ ReadPixel 0 (pos 4) (pos 11) ∷ SetRast 0 7 ∷ ReadPixel 0 (pos 4) (pos 11) ∷ put_row (pos 0) 0 0 1 192 ∷ ReadPixel 0 (pos 0) (pos 0) ∷ [])))
+    (one_task 16 14 1 (codes "w" ∷ []) (OpenWindow 0 (record (box Smart 0 0 9 14) { hook = Some 0 }) true false 0 [] ∷
+    ReadPixel 0 (pos 4) (pos 11) ∷ ReadPixel 0 (pos 0) (pos 0) ∷ SetA 0 6 ∷ fill 0 4 11 4 11 ∷
+    ReadPixel 0 (pos 4) (pos 11) ∷ SetRast 0 7 ∷ ReadPixel 0 (pos 4) (pos 11) ∷ put_row (pos 0) 0 0 1 192 ∷
+    ReadPixel 0 (pos 0) (pos 0) ∷ [])))
 
 abbrev pub pens_read_report : List ℕ
 pens_read_report =
-    text (codes "order 10/0 0 0 0 0 0 0 0 0 0/planes 16 14 1/plane 0/7f80/ff80/ff80/ff80/ff80/ff80/ff80/ff80/ff80/ff80/ff80/ff80/ff80/ff80/" ++ codes "visible w 1/0 0 8 13/damage w 0/messages w 0/replies a 10/ok/pen 1/pen 0/ok/ok/pen 0/ok/pen 1/ok/pen 0/done/")
+    text (codes "order 10/0 0 0 0 0 0 0 0 0 0/planes 16 14 1/plane 0/7f80/ff80/ff80/ff80/ff80/ff80/ff80/ff80/"
+    ++ codes "ff80/ff80/ff80/ff80/ff80/ff80/" ++ codes "visible w 1/0 0 8 13/damage w 0/messages w 0/"
+    ++ codes "replies a 10/ok/pen 1/pen 0/ok/ok/pen 0/ok/pen 1/ok/pen 0/done/")

@@ -11,7 +11,16 @@ abbrev pub least_sizes : Sizes
 least_sizes = record { version = 1; width = 1; height = 1; depth = 1; slots = 0; tasks = 1; hooks = 0; bitmaps = 0 }
 
 abbrev pub greatest_sizes : Sizes
-greatest_sizes = record { version = 1; width = 1024; height = 1024; depth = 8; slots = 64; tasks = 16; hooks = 4294967295; bitmaps = 16 }
+greatest_sizes = record {
+  version = 1;
+  width = 1024;
+  height = 1024;
+  depth = 8;
+  slots = 64;
+  tasks = 16;
+  hooks = 4294967295;
+  bitmaps = 16;
+}
 
 -- the greatest ones of the versions 2 and 3
 abbrev pub second_sizes : Sizes

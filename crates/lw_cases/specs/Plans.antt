@@ -49,7 +49,12 @@ grouped plan group = record plan { groups = (task_groups plan 0 ++ group ∷ [])
 -- the plan where a code has this glyph, its eight bytes from the top row
 abbrev pub with_glyph : ℕ → List ℕ → Plan → Plan
 with_glyph code glyph plan =
-    record plan { assets = record plan.assets { glyphs = take (code - 32) plan.assets.glyphs ++ glyph ∷ drop (code - 31) plan.assets.glyphs } }
+    record plan {
+      assets = record plan.assets {
+        glyphs = take (code - 32) plan.assets.glyphs ++ glyph ∷
+            drop (code - 31) plan.assets.glyphs;
+      };
+    }
 
 -- the plan where so many hooks are handed in
 abbrev pub with_hooks : List Hook → Plan → Plan
@@ -132,7 +137,10 @@ create_backdrop slot kind place x0 y0 x1 y1 = Create slot (record (layer kind x0
 
 -- create L super front X0 Y0 X1 Y1 BW BH
 abbrev pub create_super : ℕ → ℕ → ℕ → ℕ → ℕ → ℕ → ℕ → Call
-create_super slot x0 y0 x1 y1 bits_w bits_h = Create slot (record (layer SuperBitmap x0 y0 x1 y1) { bits_w = bits_w; bits_h = bits_h })
+create_super slot x0 y0 x1 y1 bits_w bits_h = Create slot (record (layer SuperBitmap x0 y0 x1 y1) {
+  bits_w = bits_w;
+  bits_h = bits_h;
+})
 
 -- open L KIND front X Y W H, with a frame or borderless, then the classes of messages as bits, and the title
 abbrev pub open_window : ℕ → Kind → ℕ → ℕ → ℕ → ℕ → Bool → ℕ → List ℕ → Call

@@ -48,7 +48,13 @@ left_with row slots replies =
 -- update nothing is drawable, and then of the first five pixels the one in the clip region is filled.
 abbrev pub drawn : ℕ → List Call
 drawn s =
-    open_window s Simple 0 0 8 1 false 4 [] ∷ SetRast s 1 ∷ SetA s 3 ∷ WritePixel s (pos 0) (pos 0) ∷ At s (pos 1) (pos 0) ∷ DrawTo s (pos 2) (pos 0) ∷ SetMode s 2 ∷ fill s 3 0 3 0 ∷ SetMode s 1 ∷ SetA s 2 ∷ SetMask s 2 ∷ fill s 4 0 4 0 ∷ SetMask s 255 ∷ SetB s 3 ∷ At s (pos 5) (pos 0) ∷ Letters s (codes "A") ∷ scroll_left s 1 2 0 3 0 ∷ put_row (pos 0) s 5 1 192 ∷ blit_row s 5 6 1 192 ∷ BeginRefresh s ∷ WritePixel s (pos 0) (pos 0) ∷ EndRefresh s true ∷ RegRect OrRect 0 (rect 3 0 3 0) ∷ Clip s 0 ∷ fill s 0 0 4 0 ∷ Unclip s ∷ Unclip s ∷ Scroll s (pos 1) (pos 0) ∷ SetTitle s (codes "T") ∷ MoveBy s (pos 1) (pos 0) ∷ TakeMessage s ∷ TakeMessage s ∷ ReadPixel s (pos 7) (pos 0) ∷ Which (pos 1) (pos 0) ∷ []
+    open_window s Simple 0 0 8 1 false 4 [] ∷ SetRast s 1 ∷ SetA s 3 ∷ WritePixel s (pos 0) (pos 0) ∷ At s (pos 1) (pos 0) ∷
+    DrawTo s (pos 2) (pos 0) ∷ SetMode s 2 ∷ fill s 3 0 3 0 ∷ SetMode s 1 ∷ SetA s 2 ∷ SetMask s 2 ∷ fill s 4 0 4 0 ∷
+    SetMask s 255 ∷ SetB s 3 ∷ At s (pos 5) (pos 0) ∷ Letters s (codes "A") ∷ scroll_left s 1 2 0 3 0 ∷
+    put_row (pos 0) s 5 1 192 ∷ blit_row s 5 6 1 192 ∷ BeginRefresh s ∷ WritePixel s (pos 0) (pos 0) ∷
+    EndRefresh s true ∷ RegRect OrRect 0 (rect 3 0 3 0) ∷ Clip s 0 ∷ fill s 0 0 4 0 ∷ Unclip s ∷ Unclip s ∷
+    Scroll s (pos 1) (pos 0) ∷ SetTitle s (codes "T") ∷ MoveBy s (pos 1) (pos 0) ∷ TakeMessage s ∷ TakeMessage s ∷
+    ReadPixel s (pos 7) (pos 0) ∷ Which (pos 1) (pos 0) ∷ []
 
 abbrev pub drawn_groups : ℕ → List Group
 drawn_groups s = record { first = 19; last = 21; hold = Slot s } ∷ []
@@ -61,14 +67,18 @@ drawn_seen = record { visible = rect 1 0 8 0 ∷ []; damage = []; messages = Som
 
 abbrev pub drawn_replies : ℕ → List Reply
 drawn_replies s =
-    replicate 20 Done ++ Outside ∷ Done ∷ Done ∷ Nothing ∷ Done ∷ Rects (rect 3 0 3 0 ∷ []) ∷ Nothing ∷ NotSuper ∷ Done ∷ Done ∷ Got Change ∷ Nothing ∷ Pen 3 ∷ Layer s ∷ []
+    replicate 20 Done ++ Outside ∷ Done ∷ Done ∷ Nothing ∷ Done ∷ Rects (rect 3 0 3 0 ∷ []) ∷ Nothing ∷ NotSuper ∷ Done ∷
+    Done ∷ Got Change ∷ Nothing ∷ Pen 3 ∷ Layer s ∷ []
 
 -- A window with a bitmap of its own, and a layer before its first columns. A pixel of the bitmap is filled and the portion
 -- scrolled. The window is put in front, behind and before the layer, with a look each time, gets a column more, another box and
 -- another place, and is made active.
 abbrev pub arranged : ℕ → List Call
 arranged s =
-    OpenWindow s (record (box SuperBitmap 0 0 4 1) { bits_w = 8; bits_h = 1 }) false false 14 [] ∷ create 2 Smart 0 0 1 0 ∷ fill s 4 0 4 0 ∷ Scroll s (pos 2) (pos 0) ∷ ToFront s ∷ Which (pos 0) (pos 0) ∷ ToBack s ∷ Which (pos 0) (pos 0) ∷ InFrontOf s 2 ∷ Which (pos 0) (pos 0) ∷ SizeBy s (pos 1) (pos 0) ∷ SetBox s (pos 2) (pos 0) (pos 5) (pos 1) ∷ MoveBy s (pos 1) (pos 0) ∷ Activate s ∷ TakeMessage s ∷ []
+    OpenWindow s (record (box SuperBitmap 0 0 4 1) { bits_w = 8; bits_h = 1 }) false false 14 [] ∷ create 2 Smart 0 0 1 0 ∷
+    fill s 4 0 4 0 ∷ Scroll s (pos 2) (pos 0) ∷ ToFront s ∷ Which (pos 0) (pos 0) ∷ ToBack s ∷ Which (pos 0) (pos 0) ∷
+    InFrontOf s 2 ∷ Which (pos 0) (pos 0) ∷ SizeBy s (pos 1) (pos 0) ∷ SetBox s (pos 2) (pos 0) (pos 5) (pos 1) ∷
+    MoveBy s (pos 1) (pos 0) ∷ Activate s ∷ TakeMessage s ∷ []
 
 abbrev pub arranged_row : List ℕ
 arranged_row = replicate 5 0 ++ 1 ∷ replicate 10 0
@@ -94,7 +104,9 @@ deleted_replies = Done ∷ Nothing ∷ Rects [] ∷ Done ∷ Nothing ∷ Already
 -- twice, and the clip region to change within it. (No script spells these updates.)
 abbrev pub refused : ℕ → List Call
 refused s =
-    open_window s Smart 0 0 4 1 false 0 [] ∷ open_window s Smart 4 0 4 1 false 0 [] ∷ At s (pos 32760) (pos 0) ∷ Letters s (codes "A") ∷ EndRefresh s true ∷ BeginRefresh s ∷ BeginRefresh s ∷ Clip s 0 ∷ Unclip s ∷ EndRefresh s false ∷ []
+    open_window s Smart 0 0 4 1 false 0 [] ∷ open_window s Smart 4 0 4 1 false 0 [] ∷ At s (pos 32760) (pos 0) ∷
+    Letters s (codes "A") ∷ EndRefresh s true ∷ BeginRefresh s ∷ BeginRefresh s ∷ Clip s 0 ∷ Unclip s ∷
+    EndRefresh s false ∷ []
 
 abbrev pub refused_seen : Seen
 refused_seen = record { visible = rect 0 0 3 0 ∷ []; damage = []; messages = Some [] }

@@ -17,12 +17,14 @@ lines_by_one_more =
 
 abbrev pub lines_by_one_more_report : List ℕ
 lines_by_one_more_report =
-    text (codes "order 5/0 0 0 0 0/planes 16 3 1/plane 0/8800/4600/4000/visible w 1/0 0 15 2/damage w 0/" ++ codes "replies a 5/ok/ok/ok/ok/ok/done/")
+    text (codes "order 5/0 0 0 0 0/planes 16 3 1/plane 0/8800/4600/4000/visible w 1/0 0 15 2/damage w 0/"
+    ++ codes "replies a 5/ok/ok/ok/ok/ok/done/")
 
 -- two letters left of the layer, and then one, whose cell begins in the layer's first column
 abbrev pub letters_moved : Plan
 letters_moved =
-    with_low_letter (one_task 16 2 1 (codes "w" ∷ []) (create 0 Smart 0 0 15 1 ∷ At 0 (neg_ℤ (pos 16)) (pos 0) ∷ Letters 0 (codes "AA") ∷ Letters 0 (codes "A") ∷ []))
+    with_low_letter (one_task 16 2 1 (codes "w" ∷ []) (create 0 Smart 0 0 15 1 ∷ At 0 (neg_ℤ (pos 16)) (pos 0) ∷
+    Letters 0 (codes "AA") ∷ Letters 0 (codes "A") ∷ []))
 
 abbrev pub letters_moved_report : List ℕ
 letters_moved_report =
@@ -32,7 +34,8 @@ letters_moved_report =
 -- script spells the first one.)
 abbrev pub code_below_blank : Plan
 code_below_blank =
-    with_glyph 32 (0 ∷ 0 ∷ 0 ∷ 0 ∷ 0 ∷ 0 ∷ 204 ∷ 15 ∷ []) (one_task 16 2 1 (codes "w" ∷ []) (create 0 Smart 0 0 15 1 ∷ SetRast 0 1 ∷ Letters 0 (31 ∷ 32 ∷ []) ∷ []))
+    with_glyph 32 (0 ∷ 0 ∷ 0 ∷ 0 ∷ 0 ∷ 0 ∷ 204 ∷ 15 ∷ []) (one_task 16 2 1 (codes "w" ∷ []) (create 0 Smart 0 0 15 1 ∷
+    SetRast 0 1 ∷ Letters 0 (31 ∷ 32 ∷ []) ∷ []))
 
 abbrev pub code_below_blank_report : List ℕ
 code_below_blank_report =
@@ -42,15 +45,20 @@ code_below_blank_report =
 -- it within an update.
 abbrev pub updated_strokes : Plan
 updated_strokes =
-    grouped (with_low_letter (one_task 16 3 1 (codes "w" ∷ codes "c" ∷ []) (create 0 Simple 0 0 15 2 ∷ create 1 Smart 4 0 15 2 ∷ Close 1 ∷ RegRect OrRect 0 (rect 0 0 9 2) ∷ Clip 0 0 ∷ BeginRefresh 0 ∷ At 0 (pos 0) (pos 0) ∷ Letters 0 (codes "AA") ∷ At 0 (pos 0) (pos 2) ∷ DrawTo 0 (pos 15) (pos 2) ∷ EndRefresh 0 true ∷ []))) (record { first = 5; last = 10; hold = Slot 0 })
+    grouped (with_low_letter (one_task 16 3 1 (codes "w" ∷ codes "c" ∷ []) (create 0 Simple 0 0 15 2 ∷
+    create 1 Smart 4 0 15 2 ∷ Close 1 ∷ RegRect OrRect 0 (rect 0 0 9 2) ∷ Clip 0 0 ∷ BeginRefresh 0 ∷
+    At 0 (pos 0) (pos 0) ∷ Letters 0 (codes "AA") ∷ At 0 (pos 0) (pos 2) ∷ DrawTo 0 (pos 15) (pos 2) ∷
+    EndRefresh 0 true ∷ []))) (record { first = 5; last = 10; hold = Slot 0 })
 
 abbrev pub updated_strokes_report : List ℕ
 updated_strokes_report =
-    text (codes "order 11/0 0 0 0 0 0 0 0 0 0 0/planes 16 3 1/plane 0/0cc0/0f00/0fc0/visible w 1/0 0 15 2/damage w 0/" ++ codes "replies a 11/ok/ok/ok/ok/none/ok/ok/ok/ok/ok/ok/done/")
+    text (codes "order 11/0 0 0 0 0 0 0 0 0 0 0/planes 16 3 1/plane 0/0cc0/0f00/0fc0/visible w 1/0 0 15 2/damage w 0/"
+    ++ codes "replies a 11/ok/ok/ok/ok/none/ok/ok/ok/ok/ok/ok/done/")
 
 -- a line of no length
 abbrev pub line_of_no_length : Plan
-line_of_no_length = one_task 16 1 1 (codes "w" ∷ []) (create 0 Smart 0 0 7 0 ∷ At 0 (pos 2) (pos 0) ∷ DrawTo 0 (pos 2) (pos 0) ∷ [])
+line_of_no_length = one_task 16 1 1 (codes "w" ∷ []) (create 0 Smart 0 0 7 0 ∷ At 0 (pos 2) (pos 0) ∷
+    DrawTo 0 (pos 2) (pos 0) ∷ [])
 
 abbrev pub line_of_no_length_report : List ℕ
 line_of_no_length_report =

@@ -10,8 +10,10 @@ use Rattle.lw_cases.specs.Plans.{text, one_task, box, create}
 -- another layer is created and deleted.
 abbrev pub grown_while_active : Plan
 grown_while_active =
-    one_task 16 2 1 (codes "w" ∷ codes "c" ∷ []) (OpenWindow 0 (box Smart 0 0 4 1) false true 31 [] ∷ Activate 0 ∷ SizeBy 0 (pos 0) (pos 1) ∷ create 1 Smart 8 0 9 0 ∷ Close 1 ∷ [])
+    one_task 16 2 1 (codes "w" ∷ codes "c" ∷ []) (OpenWindow 0 (box Smart 0 0 4 1) false true 31 [] ∷ Activate 0 ∷
+    SizeBy 0 (pos 0) (pos 1) ∷ create 1 Smart 8 0 9 0 ∷ Close 1 ∷ [])
 
 abbrev pub grown_while_active_report : List ℕ
 grown_while_active_report =
-    text (codes "order 5/0 0 0 0 0/planes 16 2 1/plane 0/0000/0000/visible w 1/0 0 3 1/damage w 1/0 1 3 1/" ++ codes "messages w 3/active/newsize/change/replies a 5/ok/ok/ok/ok/ok/done/")
+    text (codes "order 5/0 0 0 0 0/planes 16 2 1/plane 0/0000/0000/visible w 1/0 0 3 1/damage w 1/0 1 3 1/"
+    ++ codes "messages w 3/active/newsize/change/replies a 5/ok/ok/ok/ok/ok/done/")

@@ -65,12 +65,15 @@ pub fn bitmaps_of_layers_have_bounds()
     ensures at { all_fit (calls_with_pairs with_own_bitmap own_sizes_at_bounds) ≡ true }
     ensures past { some_fits (calls_with_pairs with_own_bitmap own_sizes_past_bounds) ≡ false }
     ensures none { some_fits (calls_with_pairs with_a_bitmap_of_none ((1, 0) ∷ (0, 1) ∷ (1, 1) ∷ [])) ≡ false }
-    ensures no_hook { some_fits (layer_of (record own_pixel { hook = Some 0 }) ∷ window_of (record own_pixel { hook = Some 0 }) ∷ []) ≡ false }
+    ensures no_hook { some_fits (layer_of (record own_pixel { hook = Some 0 }) ∷
+        window_of (record own_pixel { hook = Some 0 }) ∷ []) ≡ false }
 {}
 
 /// A window has a set of five classes of messages, and a frame unless it is a super-bitmap layer.
 pub fn windows_have_bounds()
-    ensures at { all_fit (OpenWindow 0 (box Smart 0 0 9 14) true false 31 [] ∷ OpenWindow 1 (box Simple 0 0 9 14) true true 0 [] ∷ OpenWindow 0 own_pixel false false 31 [] ∷ []) ≡ true }
-    ensures classes { some_fits (OpenWindow 0 (box Smart 0 0 9 14) true false 32 [] ∷ OpenWindow 0 own_pixel false false 32 [] ∷ []) ≡ false }
+    ensures at { all_fit (OpenWindow 0 (box Smart 0 0 9 14) true false 31 [] ∷
+        OpenWindow 1 (box Simple 0 0 9 14) true true 0 [] ∷ OpenWindow 0 own_pixel false false 31 [] ∷ []) ≡ true }
+    ensures classes { some_fits (OpenWindow 0 (box Smart 0 0 9 14) true false 32 [] ∷
+        OpenWindow 0 own_pixel false false 32 [] ∷ []) ≡ false }
     ensures framed { some_fits (OpenWindow 0 own_pixel true false 0 [] ∷ []) ≡ false }
 {}

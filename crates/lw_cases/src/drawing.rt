@@ -25,7 +25,8 @@ pub fn fill_outside_paints_nothing()
 pub fn line_back_takes_other_pixels()
     ensures line_drawn { run_report line_drawn [] (only_order line_drawn) ≡ line_drawn_report }
     ensures line_complemented { run_report line_complemented [] (only_order line_complemented) ≡ line_complemented_report }
-    ensures line_complemented_twice { run_report line_complemented_twice [] (only_order line_complemented_twice) ≡ line_complemented_twice_report }
+    ensures line_complemented_twice { run_report line_complemented_twice [] (only_order line_complemented_twice)
+        ≡ line_complemented_twice_report }
 {}
 
 /// A letter, and beside it the same letter under INVERSVID.

@@ -14,7 +14,8 @@ pub fn old_frame_is_filled_and_new_frame_painted()
 
 /// A hook that fills pixels of the frame alone turns too; and a frame of which no pixel was filled stays as it is.
 pub fn frame_pixels_turn_the_hook_and_paint_the_frame()
-    ensures { run_report frame_and_inner_uncovered six_hooks (only_order frame_and_inner_uncovered) ≡ frame_and_inner_uncovered_report }
+    ensures { run_report frame_and_inner_uncovered six_hooks (only_order frame_and_inner_uncovered)
+        ≡ frame_and_inner_uncovered_report }
 {}
 
 /// A window that ceases to be active is painted so at once, and a title is painted whole, in the pens of the window's

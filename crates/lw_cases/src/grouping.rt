@@ -17,7 +17,8 @@ ghost use Rattle.lw_cases.specs.Grouping.{fit_as, lock_from, hold_from, fill_fir
 /// Within a lock stand calls on its layer, a blit within the layer too: no calls on another layer or on two, none on all
 /// layers or on registers, no look, and neither the beginning of an update nor an end.
 pub fn lock_has_calls_on_its_layer_alone()
-    ensures fits { fit_as (Slot 0) (fill_first 0 ∷ blit_across 0 0 0 1 1 192 ∷ ReadPixel 0 (pos 0) (pos 0) ∷ Clip 0 0 ∷ []) ≡ true }
+    ensures fits { fit_as (Slot 0) (fill_first 0 ∷ blit_across 0 0 0 1 1 192 ∷ ReadPixel 0 (pos 0) (pos 0) ∷ Clip 0 0 ∷ [])
+        ≡ true }
     ensures other_layer { fit_as (Slot 0) (fill_first 0 ∷ fill_first 1 ∷ []) ≡ false }
     ensures source { fit_as (Slot 0) (fill_first 0 ∷ blit_across 0 0 1 0 1 192 ∷ []) ≡ false }
     ensures target { fit_as (Slot 0) (fill_first 0 ∷ blit_across 1 0 0 0 1 192 ∷ []) ≡ false }

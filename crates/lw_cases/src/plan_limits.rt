@@ -9,8 +9,8 @@ ghost use Rattle.lw_calls.specs.Plan.{IsPlan, no_assets};
 ghost use Rattle.lw_cases.specs.Grouping.{lock_from};
 ghost use Rattle.lw_cases.specs.PlanLimits.{least_sizes, greatest_sizes, second_sizes, third_sizes, clears, filled, filled_plan, second_filled, third_filled, first_calling, second_calling};
 
-/// A version of 1 to 3, a screen of 1 to 8 planes, 1 to 16 tasks and at most 16 bitmaps; and in version 1 a screen of 1 to 1024 by 1 to
-/// 1024 pixels and at most 64 layer names.
+/// A version of 1 to 3, a screen of 1 to 8 planes, 1 to 16 tasks and at most 16 bitmaps; and in version 1 a screen of 1 to 1024
+/// by 1 to 1024 pixels and at most 64 layer names.
 pub fn sizes_of_plans_have_bounds()
     ensures least { IsWithinLimits least_sizes }
     ensures greatest { IsWithinLimits greatest_sizes }
@@ -49,8 +49,8 @@ pub fn later_plans_have_bounds()
     ensures third_calls { IsPlan (filled third_sizes 1024 16385) → ⊥ }
 {}
 
-/// A plan has as many names, lists and bitmaps as its sizes say, in version 1 at most 4096 calls for each task, 95 glyphs of 8 rows, and
-/// calls and groups that fit.
+/// A plan has as many names, lists and bitmaps as its sizes say, in version 1 at most 4096 calls for each task, 95 glyphs of 8
+/// rows, and calls and groups that fit.
 pub fn plans_have_bounds()
     ensures filled { IsPlan filled_plan }
     ensures names { IsPlan (record filled_plan { slot_names = replicate 63 (codes "n") }) → ⊥ }

@@ -7,24 +7,32 @@ ghost use Rattle.lw_cases.specs.SlotsAndTasks.{by_the_first, by_the_second, no_g
 
 /// The first task draws on slot 1, and the second on slot 0.
 pub fn calls_draw_on_the_slot_that_they_name()
-    ensures first { run_final (by_the_first drawn drawn_groups) [] (replicate 34 0) ≡ left_with drawn_row (None ∷ Some drawn_seen ∷ None ∷ []) (drawn_replies 1 ∷ []) }
-    ensures second { run_final (by_the_second drawn drawn_groups) [] (replicate 34 1) ≡ left_with drawn_row (Some drawn_seen ∷ None ∷ None ∷ []) ([] ∷ drawn_replies 0 ∷ []) }
+    ensures first { run_final (by_the_first drawn drawn_groups) [] (replicate 34 0)
+        ≡ left_with drawn_row (None ∷ Some drawn_seen ∷ None ∷ []) (drawn_replies 1 ∷ []) }
+    ensures second { run_final (by_the_second drawn drawn_groups) [] (replicate 34 1)
+        ≡ left_with drawn_row (Some drawn_seen ∷ None ∷ None ∷ []) ([] ∷ drawn_replies 0 ∷ []) }
 {}
 
 /// The first task arranges slot 1, and the second slot 0.
 pub fn calls_arrange_the_slot_that_they_name()
-    ensures first { run_final (by_the_first arranged no_groups) [] (replicate 15 0) ≡ left_with arranged_row (None ∷ Some arranged_seen ∷ Some beside_seen ∷ []) (arranged_replies 1 ∷ []) }
-    ensures second { run_final (by_the_second arranged no_groups) [] (replicate 15 1) ≡ left_with arranged_row (Some arranged_seen ∷ None ∷ Some beside_seen ∷ []) ([] ∷ arranged_replies 0 ∷ []) }
+    ensures first { run_final (by_the_first arranged no_groups) [] (replicate 15 0)
+        ≡ left_with arranged_row (None ∷ Some arranged_seen ∷ Some beside_seen ∷ []) (arranged_replies 1 ∷ []) }
+    ensures second { run_final (by_the_second arranged no_groups) [] (replicate 15 1)
+        ≡ left_with arranged_row (Some arranged_seen ∷ None ∷ Some beside_seen ∷ []) ([] ∷ arranged_replies 0 ∷ []) }
 {}
 
 /// The first task deletes slot 1, and the second slot 0.
 pub fn calls_delete_the_slot_that_they_name()
-    ensures first { run_final (by_the_first deleted no_groups) [] (replicate 6 0) ≡ left_with (replicate 16 0) (replicate 3 None) (deleted_replies ∷ []) }
-    ensures second { run_final (by_the_second deleted no_groups) [] (replicate 6 1) ≡ left_with (replicate 16 0) (replicate 3 None) ([] ∷ deleted_replies ∷ []) }
+    ensures first { run_final (by_the_first deleted no_groups) [] (replicate 6 0)
+        ≡ left_with (replicate 16 0) (replicate 3 None) (deleted_replies ∷ []) }
+    ensures second { run_final (by_the_second deleted no_groups) [] (replicate 6 1)
+        ≡ left_with (replicate 16 0) (replicate 3 None) ([] ∷ deleted_replies ∷ []) }
 {}
 
 /// The first task is refused calls on slot 1, and the second on slot 0.
 pub fn calls_are_refused_by_the_slot_that_they_name()
-    ensures first { run_final (by_the_first refused no_groups) [] (replicate 10 0) ≡ left_with (replicate 16 0) (None ∷ Some refused_seen ∷ None ∷ []) (refused_replies ∷ []) }
-    ensures second { run_final (by_the_second refused no_groups) [] (replicate 10 1) ≡ left_with (replicate 16 0) (Some refused_seen ∷ None ∷ None ∷ []) ([] ∷ refused_replies ∷ []) }
+    ensures first { run_final (by_the_first refused no_groups) [] (replicate 10 0)
+        ≡ left_with (replicate 16 0) (None ∷ Some refused_seen ∷ None ∷ []) (refused_replies ∷ []) }
+    ensures second { run_final (by_the_second refused no_groups) [] (replicate 10 1)
+        ≡ left_with (replicate 16 0) (Some refused_seen ∷ None ∷ None ∷ []) ([] ∷ refused_replies ∷ []) }
 {}
