@@ -2,7 +2,8 @@
 # Drawing calls here beside the same calls of an X server that draws into memory, in one run. The server is Xvfb, with a screen of
 # 1024 by 768 and 8 bits a pixel, and x11perf calls it; here the screen has 8 planes, so a pixel has 8 bits too. Of each the best run
 # counts: of three of one second by x11perf, and of nine here (docs/BENCHMARKS.md). x11perf's time is that of the clock, with the
-# requests that it sends and the server reads; the time here is that of the processor, for calls in one process.
+# requests that it sends and the server reads; the time here is that of the processor, for calls in one process. Of a polygon x11perf
+# draws the pixels, and the call here works out the rectangles and draws nothing.
 #
 #     bench/beside_x.sh [PROGRAM]
 #
@@ -34,8 +35,10 @@ load() {
 load before
 if [ $# -gt 0 ]; then
     "$1" drawing >"$work/here"
+    "$1" areas >"$work/areas"
 else
     "$bench/run.sh" drawing >"$work/here"
+    "$bench/run.sh" areas >"$work/areas"
 fi
 load between
 
@@ -53,7 +56,7 @@ while [ ! -s "$work/display" ]; do
     waited=$((waited + 1))
 done
 x11perf -display ":$(cat "$work/display")" -time 1 -repeat 3 -rect10 -rect100 -rect500 -line100 -scroll100 -scroll500 \
-    -copywinwin100 -copypixwin100 >"$work/x"
+    -copywinwin100 -copypixwin100 -triangle100 -complex100 >"$work/x"
 load after
 
 # The name of x11perf's call, and that of the call here.
@@ -66,13 +69,18 @@ Scroll 100x100 pixels|scroll of 100 by 100 by (0, 1)
 Scroll 500x500 pixels|scroll of 500 by 500 by (0, 1)
 Copy 100x100 from window to window|blit of 100 by 100 within a layer
 Copy 100x100 from pixmap to window|blit of 100 by 100 from a bitmap
+Fill 100x100 equivalent triangle|triangle of 10,000 pixels
+Fill 100x100 equivalent complex polygons|arrowhead of 10,000 pixels
 END
 
 # A row of x11perf is "N reps @ T msec (R/sec): NAME", and one of the table here "| NAME | PLANES | BYTES | CALLS A SECOND | ..".
-awk -v here="$work/here" -v x="$work/x" '
+awk -v here="$work/here" -v areas="$work/areas" -v x="$work/x" '
     BEGIN {
         while ((getline row < here) > 0) {
             if (split(row, part, / *\| */) > 5 && part[3] == 8) ours[part[2]] = part[5]
+        }
+        while ((getline row < areas) > 0) {
+            if (split(row, part, / *\| */) > 7) ours[part[2]] = part[7]
         }
         while ((getline row < x) > 0) {
             if (row ~ / reps @ .*\/sec\): /) {

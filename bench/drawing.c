@@ -5,7 +5,7 @@
 #include <stdlib.h>
 #include <string.h>
 
-enum shape { SQUARE, LINES, SCROLL_LEFT, SCROLL_UP, SCROLL_BACK, FROM_BITMAP, FROM_LAYER, WITHIN, TEXT, WINDOWS, CUT, CLIPPED };
+enum shape { SQUARE, LINES, SCROLL_LEFT, SCROLL_UP, SCROLL_BACK, FROM_BITMAP, FROM_LAYER, WITHIN, TEXT, WINDOWS, CUT, CLIPPED, STEEP, COMPLEMENT };
 
 struct work {
     uint32_t shape;
@@ -102,6 +102,10 @@ void bench_drawing(void) {
         }
         struct work flat = {LINES, 37, planes, 2, planes * 100};
         print_line("line of 100 pixels", &flat);
+        struct work steep = {STEEP, 37, planes, 2, planes * 100};
+        print_line("steep line of 100 pixels", &steep);
+        struct work inverted = {COMPLEMENT, 100, planes, 1, planes * bytes_of_square(100)};
+        print_line("fill of 100 by 100, COMPLEMENT", &inverted);
         struct work text = {TEXT, 0, planes, 1, planes * 8 * 80};
         print_line("text of 80 letters", &text);
         print_moves(planes);

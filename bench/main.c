@@ -28,6 +28,10 @@ int main(int count, char **words) {
         disagreements += bench_rows();
         puts("");
     }
+    if (all || strcmp(words[1], "areas") == 0) {
+        disagreements += bench_areas();
+        puts("");
+    }
     if (all || strcmp(words[1], "drawing") == 0) {
         bench_drawing();
     }

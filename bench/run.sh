@@ -1,6 +1,6 @@
 #!/bin/sh
-# Builds the static library and the benchmarks, and runs them. An argument, `regions`, `rows` or `drawing`,
-# runs one of the three alone.
+# Builds the static library and the benchmarks, and runs them. An argument, `regions`, `rows`, `areas` or
+# `drawing`, runs one of the four alone.
 set -eu
 
 bench=$(cd "$(dirname "$0")" && pwd)

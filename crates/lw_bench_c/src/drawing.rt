@@ -4,7 +4,7 @@ ghost use Rattle.lw_machine.specs.Desk.{Desk};
 ghost use Rattle.lw_runs.specs.Standing.{StandForDesk};
 
 use crate::blits::{blit_of, put_of, scroll_of};
-use crate::settings::settings_of;
+use crate::settings::{creation, settings_of};
 use lw_backfill::Solid;
 use lw_calls::{Assets, Call, Replies, Sizes, Text};
 use lw_engine::LayerEngine;
@@ -55,13 +55,13 @@ fn letters(alloc: Global) -> Result<Call, AllocError> {
     })
 }
 
-// The calls of one repetition: a fill; two lines of 100 pixels, there and back; a scroll by 1 column, by 1 row, or by 7 columns
-// and 3 rows the other way; a blit from the bitmap, from the layer behind, or within the layer; a text with the call that puts
-// the cursor before it; or a fill again, of a layer that is cut.
+// The calls of one repetition: a fill; two lines of 100 pixels, there and back, flat or steep; a scroll by 1 column, by 1 row, or
+// by 7 columns and 3 rows the other way; a blit from the bitmap, from the layer behind, or within the layer; a text with the call
+// that puts the cursor before it; or a fill again, of a layer that is cut, or under COMPLEMENT.
 fn calls_of(alloc: Global, shape: u32, side: i16) -> Option<Vec<Call>> {
     let mut calls = Vec::new(alloc);
     match shape {
-        0 | 9..=11 => calls.push(fill_of(side)?).ok()?,
+        0 | 9..=11 | 13 => calls.push(fill_of(side)?).ok()?,
         1 => {
             calls.push(line_to(99, side)).ok()?;
             calls.push(line_to(0, 0)).ok()?;
@@ -72,6 +72,10 @@ fn calls_of(alloc: Global, shape: u32, side: i16) -> Option<Vec<Call>> {
         5 => calls.push(put_of(side)).ok()?,
         6 => calls.push(blit_of(1, side)).ok()?,
         7 => calls.push(blit_of(0, side)).ok()?,
+        12 => {
+            calls.push(line_to(side, 99)).ok()?;
+            calls.push(line_to(0, 0)).ok()?;
+        }
         _ => {
             calls
                 .push(Call::At {
@@ -155,13 +159,13 @@ fn make_often<E: Engine>(
     Some(())
 }
 
-// The parts once a shape was set up, and then all calls made so many times.
+// The parts once some calls were made, and then others so many times.
 fn drawn<E: Engine>(
     alloc: Global,
     engine: &E,
     parts: Parts<E>,
     sizes: &Sizes,
-    shape: u32,
+    settings: &[Call],
     calls: &[Call],
     repetitions: u32,
 ) -> Option<Parts<E>>
@@ -172,9 +176,8 @@ fn drawn<E: Engine>(
     ensures { IfSome result (λ made. (d : Desk) × StandForDesk E.relations (E.sizes engine.now) (E.assets engine.now)
         made.info made.cells.items made.registers.items d) }
 {
-    let settings = settings_of(alloc, shape)?;
     let mut parts = parts;
-    make_each(alloc, engine, &mut parts, sizes, settings.as_slice())?;
+    make_each(alloc, engine, &mut parts, sizes, settings)?;
     make_often(alloc, engine, &mut parts, sizes, calls, repetitions)?;
     Some(parts)
 }
@@ -233,8 +236,77 @@ pub(crate) fn repeated(
 {
     let sizes = sizes_of(planes);
     let assets = assets_of(alloc, planes)?;
+    let settings = settings_of(alloc, shape)?;
     let calls = calls_of(alloc, shape, side)?;
-    let engine = LayerEngine::<Solid>::new(sizes, &assets);
+    screen_after(
+        alloc,
+        sizes,
+        &assets,
+        settings.as_slice(),
+        calls.as_slice(),
+        repetitions,
+    )
+}
+
+// The sizes of a desk for programs, with so many slots.
+fn sizes_of_slots(slots: u32) -> Sizes
+    requires some { 1 ≤ slots }
+    requires few { slots ≤ 1024 }
+    ensures limits { IsWithinLimits result }
+    ensures task { result.tasks ≡ 1 }
+{
+    Sizes {
+        version: 3,
+        width: 1024,
+        height: 768,
+        depth: 8,
+        slots,
+        tasks: 1,
+        hooks: 0,
+        bitmaps: 1,
+    }
+}
+
+// Layers of 200 by 200 pixels in the first slots, of which each is put in front in turn so many times.
+pub(crate) fn turned(alloc: Global, slots: u32, layers: u32, repetitions: u32) -> Option<u32>
+    requires some { 1 ≤ slots }
+    requires few { slots ≤ 1024 }
+{
+    let sizes = sizes_of_slots(slots);
+    let assets = assets_of(alloc, 8)?;
+    let mut settings = Vec::new(alloc);
+    let mut calls = Vec::new(alloc);
+    for slot in 0..layers {
+        let x = slot.wrapping_mul(53) % 790;
+        let y = slot.wrapping_mul(37) % 540;
+        settings
+            .push(creation(slot, x as i32, y as i32, 200, 200))
+            .ok()?;
+        calls.push(Call::ToFront { slot }).ok()?;
+    }
+    screen_after(
+        alloc,
+        sizes,
+        &assets,
+        settings.as_slice(),
+        calls.as_slice(),
+        repetitions,
+    )
+}
+
+// The screen, as one number, of a new desk on which some calls were made, and then others so many times.
+fn screen_after(
+    alloc: Global,
+    sizes: Sizes,
+    assets: &Assets,
+    settings: &[Call],
+    calls: &[Call],
+    repetitions: u32,
+) -> Option<u32>
+    requires limits { IsWithinLimits sizes }
+    requires task { sizes.tasks ≡ 1 }
+{
+    let engine = LayerEngine::<Solid>::new(sizes, assets);
     let Ok(opened) = engine.open(alloc, Vec::new(alloc)) else {
         return None;
     };
@@ -243,15 +315,7 @@ pub(crate) fn repeated(
         cells: opened.slots,
         registers: opened.registers,
     };
-    let parts = drawn(
-        alloc,
-        &engine,
-        parts,
-        &sizes,
-        shape,
-        calls.as_slice(),
-        repetitions,
-    )?;
+    let parts = drawn(alloc, &engine, parts, &sizes, settings, calls, repetitions)?;
     let Parts { info, cells, .. } = parts;
     let mut replies = Vec::new(alloc);
     replies.push(Replies::new(Vec::new(alloc))).ok()?;

@@ -4,6 +4,7 @@
 
 ghost use Rattle.std.specs.Prelude.{◌≡◌, ◌<◌, ◌≤ℤ◌, negsuc};
 
+mod areas;
 mod blits;
 mod boxes;
 mod drawing;
@@ -39,6 +40,20 @@ pub extern "C" fn lw_bench_regions(
     }
 }
 
+/// How many rectangles an area has. Shape 0 is a triangle of some 10,000 pixels, 1 an arrowhead of as many, and 2 a polygon of 32 points
+/// over 6,000 rows, which `seed` makes; none has a pattern. They are worked out `repetitions` times; for none the answer is 0. It is -1
+/// for an unknown shape and where memory runs out.
+#[unsafe(no_mangle)]
+pub extern "C" fn lw_bench_areas(alloc: Global, shape: u32, repetitions: u32, seed: u32) -> i64
+    ensures least { negsuc 0 ≤ℤ result }
+    ensures unknown { 2 < shape → result ≡ negsuc 0 }
+{
+    match areas::counted(alloc, shape, repetitions, seed) {
+        Some(count) => i64::from(count),
+        None => -1,
+    }
+}
+
 /// A number made of the bytes of a row, after a kernel was called on it `repetitions` times for 8 bits each of
 /// `bytes` bytes, from bit `bit % 8` of the row on. Kernel 0 fills, 1 inverts, 2 blits from bit 0 of another row,
 /// 3 blits within the row from its bit 8 on, and any other blits within the row from its bit 0 on, to the bits
@@ -60,8 +75,9 @@ pub extern "C" fn lw_bench_row(
 /// whose left edge is 3 columns off a byte's; 1 is two lines, from the corner to column 99 and row `side` and back; 2, 3 and 4
 /// scroll that square by (1, 0), (0, 1) and (-7, -3); 5, 6 and 7 blit a square, 3 columns to the right in its bytes, from a
 /// bitmap, from the layer behind and within the layer; 9, 10 and 11 fill that square where four windows lie over the layer, where
-/// windows cut it into 64 clip rectangles, and in a clip region of 128 rectangles; any other is a text of 80 letters with the
-/// call that puts the cursor before it. It is -1 where the square isn't one and where memory runs out.
+/// windows cut it into 64 clip rectangles, and in a clip region of 128 rectangles; 12 is two steep lines, from the corner to column
+/// `side` and row 99 and back; 13 fills the square under COMPLEMENT; any other is a text of 80 letters with the call that puts the
+/// cursor before it. It is -1 where the square isn't one and where memory runs out.
 #[unsafe(no_mangle)]
 pub extern "C" fn lw_bench_drawing(
     alloc: Global,
@@ -73,6 +89,19 @@ pub extern "C" fn lw_bench_drawing(
     ensures { negsuc 0 ≤ℤ result }
 {
     match drawing::repeated(alloc, shape, side, planes.clamp(1, 8), repetitions) {
+        Some(sum) => i64::from(sum),
+        None => -1,
+    }
+}
+
+/// A number made of the bytes of the screen, after each of `layers` smart layers of 200 by 200 pixels on a screen of 1024 by 768
+/// with 8 planes was put in front `repetitions` times, on a desk for programs with `slots` slots, of which 1 to 1024 count. It is
+/// -1 where there are more layers than slots and where memory runs out.
+#[unsafe(no_mangle)]
+pub extern "C" fn lw_bench_fronts(alloc: Global, slots: u32, layers: u32, repetitions: u32) -> i64
+    ensures { negsuc 0 ≤ℤ result }
+{
+    match drawing::turned(alloc, slots.clamp(1, 1024), layers, repetitions) {
         Some(sum) => i64::from(sum),
         None => -1,
     }

@@ -23,7 +23,7 @@ pub(crate) fn creation(slot: u32, x: i32, y: i32, w: i32, h: i32) -> Call {
 
 // The calls that set a shape up: two layers that cover the screen, the first slot's in front of the other; and then four windows
 // over the square that is filled, or windows that cut the layer into 64 clip rectangles, all of which the square meets, or a clip
-// region of 128 rectangles in the square.
+// region of 128 rectangles in the square, or the mode COMPLEMENT.
 pub(crate) fn settings_of(alloc: Global, shape: u32) -> Option<Vec<Call>> {
     let mut calls = Vec::new(alloc);
     calls.push(creation(1, 0, 0, 640, 512)).ok()?;
@@ -32,6 +32,7 @@ pub(crate) fn settings_of(alloc: Global, shape: u32) -> Option<Vec<Call>> {
         9 => few_windows(&mut calls)?,
         10 => many_windows(&mut calls)?,
         11 => clip_region(&mut calls)?,
+        13 => calls.push(Call::SetMode { slot: 0, mode: 2 }).ok()?,
         _ => (),
     }
     Some(calls)
