@@ -13,7 +13,7 @@ import sys
 
 USE = re.compile(r"^ *(?:pub )?(?:ghost )?use Rattle\.(lw_\w+)\.specs\.([\w.]+?)(?:\.\{([^}]*)\}| as (\w+))", re.M)
 CODE_USE = re.compile(r"^(?:pub )?use ([\w:]+)::(?:\{([^}]*)\}|(\w+));", re.M)
-ITEM = re.compile(r"^(?:pub(?:\(crate\))? )?(?:fn|struct|enum|trait|impl)\b(?:[^\n]*[;}]$|.*?^(?:\{\}|\})$)", re.M | re.S)
+ITEM = re.compile(r"^(?:pub(?:\(crate\))? )?(?:extern \"C\" )?(?:fn|struct|enum|trait|impl)\b(?:[^\n]*[;}]$|.*?^(?:\{\}|\})$)", re.M | re.S)
 HEAD = re.compile(r".*?(?=^\{|\{\}$|\Z)", re.M | re.S)
 METHOD = re.compile(r"^    (pub )?fn .*?(?=^    \{|;$|\{\}$)", re.M | re.S)
 MEMBER = re.compile(r"^    ghost .*?;$", re.M | re.S)
