@@ -40,7 +40,7 @@ screen_read : (s : Setting) (above : List Statement) → AreGoodLines s above �
 screen_read s [] g written = tt
 screen_read s (LayersLine ∷ above) g written = unless _ _ (ap has_screen (version_first s above g))
 screen_read s (ScreenLine w h d ∷ above) g written =
-    record { x = w; y = h; z = d; below = above; good = g; written = written.0; version = refl; width = refl; height = refl; depth = refl }
+    record { x = w; y = h; z = d; below = above; good = g; written = written.0 refl; version = refl; width = refl; height = refl; depth = refl }
 screen_read s (TaskLine name ∷ above) g written =
     when _ _ (in_assets_or_tasks (told above).section (here s above (TaskLine name) g).1) (screen_read s above g.1 written.1)
 screen_read s (EndLine ∷ above) g written =
@@ -141,9 +141,9 @@ screen_base s above g has =
     let d = (told above).depth in
     let P : ℕ → Type 0 = λ v. AreBase v w h d (ScreenLine (pos w) (pos h) (pos d) ∷ lines_of_version v) in
     let one : IsBare 1 w h d (ScreenLine (pos w) (pos h) (pos d) ∷ []) =
-    record { version = refl; section = refl; width = refl; height = refl; depth = refl; patterns = refl; tasks = refl; names = refl; supers = refl; hooks = refl; group = refl; so_far = refl; began = refl; calls = refl; groups = refl } in
+    record { version = refl; section = refl; width = refl; height = refl; depth = refl; patterns = refl; tasks = refl; names = refl; seen = refl; pairs = refl; supers = refl; hooks = refl; group = refl; so_far = refl; began = refl; calls = refl; groups = refl } in
     let two : IsBare 2 w h d (ScreenLine (pos w) (pos h) (pos d) ∷ LayersLine ∷ []) =
-    record { version = refl; section = refl; width = refl; height = refl; depth = refl; patterns = refl; tasks = refl; names = refl; supers = refl; hooks = refl; group = refl; so_far = refl; began = refl; calls = refl; groups = refl } in
+    record { version = refl; section = refl; width = refl; height = refl; depth = refl; patterns = refl; tasks = refl; names = refl; seen = refl; pairs = refl; supers = refl; hooks = refl; group = refl; so_far = refl; began = refl; calls = refl; groups = refl } in
     let first : P 1 = record { bare = one; alone = record { due = refl; width = refl; names = refl; made = λ rows. refl }; given = refl; glyphs = λ code. refl } in
     let second : P 2 = record { bare = two; alone = record { due = refl; width = refl; names = refl; made = λ rows. refl }; given = refl; glyphs = λ code. refl } in
     by_version P first second (told above).version k.some_version k.small_version
@@ -211,6 +211,8 @@ is_kept_base s above g has none =
       bitmaps = made_kept (glyphs_of above) b s above g [] (none_due above none);
       tasks = k.tasks;
       names = k.names;
+      seen = k.seen;
+      pairs = k.pairs;
       supers = k.supers;
       hooks = k.hooks;
       group = k.group;

@@ -54,8 +54,8 @@ module _ (s t : Setting) (v w h d : ℕ) (base : List Statement) (bare : IsBare 
   pub kept_spelled : (above : List Statement) → AreGoodLines s above → AreWritten s above → AreSpelled t base → AreSpelled t (kept above base)
   kept_spelled [] g written k = k
   kept_spelled (BitmapLine name x y z ∷ above) g written k =
-      (bitmap_again name x y z above g written.0, isnt_passed (kept above base) (spelled (BitmapLine name x y z)) refl (due_bare v w h d _ (bare_kept v w h d above base bare)), kept_spelled above g.1 written.1 k)
+      (bitmap_again name x y z above g (written.0 refl), isnt_passed (kept above base) (spelled (BitmapLine name x y z)) refl (due_bare v w h d _ (bare_kept v w h d above base bare)), kept_spelled above g.1 written.1 k)
   kept_spelled (RowLine bytes ∷ above) g written k =
-      let read = row_again bytes above g written.0 in
+      let read = row_again bytes above g (written.0 refl) in
       (read, isnt_passed (kept above base) (spelled (RowLine bytes)) (row_stands t (kept above base) bytes read) (due_bare v w h d _ (bare_kept v w h d above base bare)), kept_spelled above g.1 written.1 k)
   kept_spelled (f ∷ above) g written k = kept_spelled above g.1 written.1 k

@@ -102,7 +102,7 @@ glyph_read s (GlyphLine c rows ∷ above) g written code = step (c == code) refl
     step true e rest =
         let P : ℕ → Type 0 = λ k. AreGoodLines s (GlyphLine k rows ∷ above) in
         let Q : ℕ → Type 0 = λ k. IsWritten s above (GlyphLine k rows) in
-        inr (above, subst P (eqb-true c code e) g, subst Q (eqb-true c code e) written.0)
+        inr (above, subst P (eqb-true c code e) g, subst Q (eqb-true c code e) (written.0 refl))
     step false e rest = rest
 glyph_read s (f ∷ above) g written code = glyph_read s above g.1 written.1 code
 

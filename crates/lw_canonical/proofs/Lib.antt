@@ -4,6 +4,7 @@ pub mod SpelledVerbs
 pub mod SpelledRanges
 pub mod SpelledStatements
 pub mod SpelledLayers
+pub mod SpelledGzz
 pub mod OneSpelling
 pub mod ReadsAgain
 pub mod PlainWords
@@ -17,9 +18,19 @@ pub mod BaseSpelled
 pub mod NotionsAlike
 pub mod TaskLineAlone
 pub mod TasksSpelled
+pub mod FreeLines
+pub mod FreeCalls
+pub mod GzzWords
 pub mod CanonicalRead
 pub mod CallLinesBack
 pub mod GroupLines
+pub mod PairsFound
+pub mod NamesApart
+pub mod LinesApart
+pub mod CallsApart
+pub mod OpenedOnce
+pub mod PlansApart
+pub mod GzzTold
 pub mod TaskLines
 pub mod ByNumber
 pub mod PlanLines

@@ -3,7 +3,7 @@ use Rattle.std.proofs.Common.{◌≡◌, ℕ, ◌+◌, ◌-◌, ◌≤◌, ◌==
 use Rattle.lw_calls.specs.declared.group.Hold.{Hold}
 use Rattle.lw_calls.specs.declared.group.Hold.TheVariants.{Slot, All as AllLayers}
 use Rattle.lw_grammar.specs.declared.verb.BareVerb.TheVariants.{Refresh as RefreshVerb}
-use Rattle.lw_grammar.specs.Statements.{Act, BareAct, EndRefreshAct, Statement, LayersLine, ScreenLine, GlyphLine, BitmapLine, RowLine, PatternLine, TaskLine, EndLine, OrderLine, NumbersLine, ReportLine, CallLine, LockLine, UnlockLine, HoldLine, ReleaseLine, version_at_screen}
+use Rattle.lw_grammar.specs.Statements.{Act, BareAct, EndRefreshAct, Statement, LayersLine, ScreenLine, GlyphLine, BitmapLine, RowLine, PatternLine, TaskLine, EndLine, OrderLine, NumbersLine, ReportLine, CallLine, LockLine, UnlockLine, HoldLine, ReleaseLine, NameSeen, PairMade, version_at_screen}
 use Rattle.lw_grammar.specs.Told.{Section, ScreenIsDue, AssetsAreDue, CallsAreDue, TasksAreDue, NumbersAreDue, NothingIsDue, nothing_told, and_name, and_names, place_among, onto_last, spelled_call, call_below, makes_super, hook_on, and_hook, left_open_by, group_from, told}
 use Rattle.lw_grammar.specs.Script.{Setting, are_calls_due, are_tasks_due, are_numbers_due}
 use Rattle.lw_grammar.specs.GoodLines.{AreGoodLines}
@@ -17,6 +17,8 @@ pub record AreBare (above : List Statement) : Type 0 where
   pub of_tasks : filter is_of_tasks above ≡ []
   pub tasks : (told above).tasks ≡ []
   pub names : (told above).names ≡ []
+  pub seen : (told above).seen ≡ []
+  pub pairs : (told above).pairs ≡ []
   pub supers : (told above).supers ≡ 0
   pub hooks : (told above).used ≡ nothing_told.used
   pub group : (told above).group ≡ None
@@ -40,32 +42,32 @@ both_begun c e n = true≢false (sym e ∙ n)
 -- the version, the screen line, a glyph, a bitmap, a row or a pattern leaves lines bare
 layers_bare : (above : List Statement) → AreBare above → AreBare (LayersLine ∷ above)
 layers_bare above b =
-    record { of_tasks = b.of_tasks; tasks = b.tasks; names = b.names; supers = b.supers; hooks = b.hooks; group = b.group; so_far = b.so_far; began = b.began; calls = b.calls; groups = b.groups }
+    record { of_tasks = b.of_tasks; tasks = b.tasks; names = b.names; seen = b.seen; pairs = b.pairs; supers = b.supers; hooks = b.hooks; group = b.group; so_far = b.so_far; began = b.began; calls = b.calls; groups = b.groups }
 
 screen_bare : (above : List Statement) (w h d : ℤ) → AreBare above → AreBare (ScreenLine w h d ∷ above)
 screen_bare above w h d b =
-    record { of_tasks = b.of_tasks; tasks = b.tasks; names = b.names; supers = b.supers; hooks = b.hooks; group = b.group; so_far = b.so_far; began = b.began; calls = b.calls; groups = b.groups }
+    record { of_tasks = b.of_tasks; tasks = b.tasks; names = b.names; seen = b.seen; pairs = b.pairs; supers = b.supers; hooks = b.hooks; group = b.group; so_far = b.so_far; began = b.began; calls = b.calls; groups = b.groups }
 
 glyph_bare : (above : List Statement) (code : ℕ) (rows : List ℕ) → AreBare above → AreBare (GlyphLine code rows ∷ above)
 glyph_bare above code rows b =
-    record { of_tasks = b.of_tasks; tasks = b.tasks; names = b.names; supers = b.supers; hooks = b.hooks; group = b.group; so_far = b.so_far; began = b.began; calls = b.calls; groups = b.groups }
+    record { of_tasks = b.of_tasks; tasks = b.tasks; names = b.names; seen = b.seen; pairs = b.pairs; supers = b.supers; hooks = b.hooks; group = b.group; so_far = b.so_far; began = b.began; calls = b.calls; groups = b.groups }
 
 bitmap_bare : (above : List Statement) (name : List ℕ) (w h d : ℤ) → AreBare above → AreBare (BitmapLine name w h d ∷ above)
 bitmap_bare above name w h d b =
-    record { of_tasks = b.of_tasks; tasks = b.tasks; names = b.names; supers = b.supers; hooks = b.hooks; group = b.group; so_far = b.so_far; began = b.began; calls = b.calls; groups = b.groups }
+    record { of_tasks = b.of_tasks; tasks = b.tasks; names = b.names; seen = b.seen; pairs = b.pairs; supers = b.supers; hooks = b.hooks; group = b.group; so_far = b.so_far; began = b.began; calls = b.calls; groups = b.groups }
 
 row_bare : (above : List Statement) (bytes : List ℕ) → AreBare above → AreBare (RowLine bytes ∷ above)
 row_bare above bytes b =
-    record { of_tasks = b.of_tasks; tasks = b.tasks; names = b.names; supers = b.supers; hooks = b.hooks; group = b.group; so_far = b.so_far; began = b.began; calls = b.calls; groups = b.groups }
+    record { of_tasks = b.of_tasks; tasks = b.tasks; names = b.names; seen = b.seen; pairs = b.pairs; supers = b.supers; hooks = b.hooks; group = b.group; so_far = b.so_far; began = b.began; calls = b.calls; groups = b.groups }
 
 pattern_bare : (above : List Statement) (name words : List ℕ) → AreBare above → AreBare (PatternLine name words ∷ above)
 pattern_bare above name words b =
-    record { of_tasks = b.of_tasks; tasks = b.tasks; names = b.names; supers = b.supers; hooks = b.hooks; group = b.group; so_far = b.so_far; began = b.began; calls = b.calls; groups = b.groups }
+    record { of_tasks = b.of_tasks; tasks = b.tasks; names = b.names; seen = b.seen; pairs = b.pairs; supers = b.supers; hooks = b.hooks; group = b.group; so_far = b.so_far; began = b.began; calls = b.calls; groups = b.groups }
 
 -- Good lines are bare as long as no task has begun.
 pub bare : (s : Setting) (above : List Statement) → AreGoodLines s above → has_begun (told above).section ≡ false → AreBare above
 bare s [] g n =
-    record { of_tasks = refl; tasks = refl; names = refl; supers = refl; hooks = refl; group = refl; so_far = refl; began = refl; calls = refl; groups = refl }
+    record { of_tasks = refl; tasks = refl; names = refl; seen = refl; pairs = refl; supers = refl; hooks = refl; group = refl; so_far = refl; began = refl; calls = refl; groups = refl }
 bare s (LayersLine ∷ above) g n = layers_bare above (bare s above g.1 n)
 bare s (ScreenLine w h d ∷ above) g n =
     screen_bare above w h d (bare s above g.1 (ap has_begun (in_screen (told above).section (here s above (ScreenLine w h d) g).1)))
@@ -82,6 +84,8 @@ bare s (CallLine layers act ∷ above) g n = absurd (both_begun (told above).sec
 bare s (LockLine name ∷ above) g n = absurd (both_begun (told above).section (calls_begun (told above).section (here s above (LockLine name) g).1) n)
 bare s (UnlockLine name ∷ above) g n = absurd (both_begun (told above).section (calls_begun (told above).section (here s above (UnlockLine name) g).1) n)
 bare s (HoldLine ∷ above) g n = absurd (both_begun (told above).section (calls_begun (told above).section (here s above HoldLine g).1) n)
+bare s (NameSeen name ∷ above) g n = absurd (both_begun (told above).section (calls_begun (told above).section (here s above (NameSeen name) g).1) n)
+bare s (PairMade outer inner ∷ above) g n = absurd (both_begun (told above).section (calls_begun (told above).section (here s above (PairMade outer inner) g).1) n)
 bare s (ReleaseLine ∷ above) g n = absurd (both_begun (told above).section (calls_begun (told above).section (here s above ReleaseLine g).1) n)
 
 -- the section in a script alone: an order and a report aren't there
@@ -107,6 +111,8 @@ pub record AreAlike (above new : List Statement) : Type 0 where
   pub bitmaps : (told new).bitmaps [] ≡ (told above).bitmaps []
   pub tasks : (told new).tasks ≡ (told above).tasks
   pub names : (told new).names ≡ (told above).names
+  pub seen : (told new).seen ≡ []
+  pub pairs : (told new).pairs ≡ (told above).pairs
   pub supers : (told new).supers ≡ (told above).supers
   pub hooks : (told new).used ≡ (told above).used
   pub group : (told new).group ≡ (told above).group
@@ -131,6 +137,8 @@ base_alike above base c n b =
       bitmaps = b.bitmaps;
       tasks = b.tasks ∙ sym n.tasks;
       names = b.names ∙ sym n.names;
+      seen = b.seen;
+      pairs = b.pairs ∙ sym n.pairs;
       supers = b.supers ∙ sym n.supers;
       hooks = b.hooks ∙ sym n.hooks;
       group = b.group ∙ sym n.group;
@@ -229,6 +237,15 @@ module _ (above new : List Statement) (a : AreAlike above new) where
   more_names (UnlockLine name) = ap (λ names. and_name names name) a.names
   more_names f = a.names
 
+  -- no name stands alone, and the windows of two layers
+  more_seen : (f : Statement) → is_of_tasks f ≡ true → (told (f ∷ new)).seen ≡ []
+  more_seen (NameSeen name) t = absurd (false≢true t)
+  more_seen f t = a.seen
+
+  more_pairs : (f : Statement) → (told (f ∷ new)).pairs ≡ (told (f ∷ above)).pairs
+  more_pairs (PairMade outer inner) = ap (λ pairs. pairs ++ record { outer = outer; inner = inner } ∷ []) a.pairs
+  more_pairs f = a.pairs
+
   -- how many lines ask for a super-bitmap layer, and the hooks that are named
   more_supers : (f : Statement) → (told (f ∷ new)).supers ≡ (told (f ∷ above)).supers
   more_supers (CallLine layers act) = ap (λ n. cond (makes_super (CallLine layers act)) 1 0 + n) a.supers
@@ -296,6 +313,8 @@ module _ (above new : List Statement) (a : AreAlike above new) where
         bitmaps = more_bitmaps f t;
         tasks = more_tasks f;
         names = more_names f;
+        seen = more_seen f t;
+        pairs = more_pairs f;
         supers = more_supers f;
         hooks = more_hooks f;
         group = more_group f;
@@ -337,6 +356,8 @@ base_below f above base t b =
       bitmaps = b.bitmaps;
       tasks = b.tasks;
       names = b.names;
+      seen = b.seen;
+      pairs = b.pairs;
       supers = b.supers;
       hooks = b.hooks;
       group = b.group;
@@ -346,11 +367,12 @@ base_below f above base t b =
       groups = b.groups;
     }
 
--- an order, its numbers or a report tells nothing of tasks
+-- an order, its numbers, a report and a name that stands alone tell nothing of tasks
 abbrev is_of_end : Statement → Bool
 is_of_end OrderLine = true
 is_of_end (NumbersLine zs) = true
 is_of_end ReportLine = true
+is_of_end (NameSeen name) = true
 is_of_end f = false
 
 alike_behind : (above new : List Statement) (f : Statement) → is_of_end f ≡ true → section_alone (told (f ∷ above)).section ≡ section_alone (told above).section → AreAlike above new → AreAlike (f ∷ above) new
@@ -367,6 +389,7 @@ alike_behind above new (LockLine name) t c a = absurd (false≢true t)
 alike_behind above new (UnlockLine name) t c a = absurd (false≢true t)
 alike_behind above new HoldLine t c a = absurd (false≢true t)
 alike_behind above new ReleaseLine t c a = absurd (false≢true t)
+alike_behind above new (PairMade outer inner) t c a = absurd (false≢true t)
 alike_behind above new f t c a =
     record {
       version = a.version;
@@ -381,6 +404,8 @@ alike_behind above new f t c a =
       bitmaps = a.bitmaps;
       tasks = a.tasks;
       names = a.names;
+      seen = a.seen;
+      pairs = a.pairs;
       supers = a.supers;
       hooks = a.hooks;
       group = a.group;
@@ -449,3 +474,7 @@ alike s (HoldLine ∷ above) base g e b =
     alike_more above _ (alike s above base g.1 (calls_screen (told above).section (here s above HoldLine g).1) (base_below HoldLine above base refl b)) HoldLine refl
 alike s (ReleaseLine ∷ above) base g e b =
     alike_more above _ (alike s above base g.1 (calls_screen (told above).section (here s above ReleaseLine g).1) (base_below ReleaseLine above base refl b)) ReleaseLine refl
+alike s (NameSeen name ∷ above) base g e b =
+    alike_behind above _ (NameSeen name) refl refl (alike s above base g.1 (calls_screen (told above).section (here s above (NameSeen name) g).1) (base_below (NameSeen name) above base refl b))
+alike s (PairMade outer inner ∷ above) base g e b =
+    alike_more above _ (alike s above base g.1 (calls_screen (told above).section (here s above (PairMade outer inner) g).1) (base_below (PairMade outer inner) above base refl b)) (PairMade outer inner) refl

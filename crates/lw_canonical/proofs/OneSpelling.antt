@@ -1,26 +1,29 @@
 -- Each good line has one spelling, in which it isn't skipped and has no line feed; and lines so spelled are those of their text.
-use Rattle.std.proofs.Common.{◌≡◌, ℕ, ◌==◌, Bool, true, false, not, cond, nat_le, List, [], ◌∷◌, ◌++◌, length, map, codes, Option, Some, None, Result, Ok, Err, ok_or, IfSome, refl, sym, ap, subst, ◌∙◌, append_assoc}
+use Rattle.std.proofs.Common.{◌≡◌, ℕ, ◌≤◌, ◌==◌, Bool, true, false, not, cond, nat_le, List, [], ◌∷◌, ◌++◌, length, map, codes, Option, Some, None, Result, Ok, Err, ok_or, IfSome, refl, sym, ap, subst, ◌∙◌, append_assoc}
 use Rattle.std.specs.List.{list_all, flat_map, onto_first}
 use Rattle.std.specs.Result.{IfOk}
 use Rattle.lw_grammar.specs.declared.reason.Reason.{Reason}
 use Rattle.lw_grammar.specs.declared.reason.Reason.TheVariants.{LineTooLong, BadByte, UnknownWord, Misplaced, Form as FormReason, Range}
 use Rattle.lw_grammar.specs.declared.verb.Verb.{Verb}
-use Rattle.lw_grammar.specs.declared.verb.Verb.TheVariants.{Part, Bare, Number, Pair, Text, Rect, Region, ClearRegion, Create, Open, InFront, Box, Which, Fill, ScrollRaster, Put, Blit, EndRefresh, Area as AreaVerb, AreaPattern as AreaPatternVerb}
+use Rattle.lw_grammar.specs.declared.verb.Verb.TheVariants.{Part, Bare, Number, Pair, Text, Rect, Region, ClearRegion, Create, Open, InFront, Box, Which, Fill, ScrollRaster, Put, Blit, EndRefresh, Area as AreaVerb, AreaPattern as AreaPatternVerb, Gzz}
 use Rattle.lw_grammar.specs.Demands.{◌>>=◌, demand}
 use Rattle.lw_grammar.specs.Lines.{lines}
 use Rattle.lw_grammar.specs.Tokens.{tokens, Token, NameToken, token_of}
-use Rattle.lw_grammar.specs.Verbs.{verb_word, verb_of}
-use Rattle.lw_grammar.specs.Statements.{BoxAct, FillAct, Statement, Line, StatementLine, AreaLine, row_line, numbers_line, area_points, area_line, area_pattern_line, statement_by, line_by, is_line_in_range}
+use Rattle.lw_grammar.specs.declared.verb.GzzVerb.{GzzVerb}
+use Rattle.lw_grammar.specs.Verbs.{gzz_word, verb_word, verb_of}
+use Rattle.lw_grammar.specs.Statements.{BoxAct, FillAct, Statement, GzzAct, Line, StatementLine, AreaLine, GzzLine, row_line, numbers_line, area_points, area_line, area_pattern_line, gzz_line, statement_by, line_by, is_line_in_range}
 use Rattle.lw_grammar.specs.Told.{told}
 use Rattle.lw_grammar.specs.Script.{Setting, line_limit, is_printable, are_numbers_due, is_known_in, belongs_in, words_read, verb_read, stated, line_made, line_tested, line_read}
 use Rattle.lw_calls.specs.Written.{line_of}
-use Rattle.lw_canonical.specs.Spelling.{joined, words_of, spelled}
+use Rattle.lw_canonical.specs.Spelling.{joined, words_of, spelled, gzz_words, written}
+use Rattle.lw_grammar.proofs.GzzLines.{gzz_passed}
 use Rattle.lw_grammar.proofs.ScriptStatements.{map_has, map_all, found_has}
 use Rattle.lw_canonical.proofs.SpelledVerbs.{IsWordOf, verb_spelled}
 use Rattle.lw_canonical.proofs.SpelledWords.{AreWords, AreWordsOf, words_joined, token_word, tokens_back, tokens_good}
 use Rattle.lw_canonical.proofs.SpelledRanges.{rect_small, place_and_size_small, also}
 use Rattle.lw_canonical.proofs.SpelledStatements.{IsSpelt, HasWords, row_spelt, numbers_spelt, part_spelt, layer_spelt, number_spelt, pair_spelt, text_spelt, four_spelt, rect_spelt, region_spelt, clear_spelt, which_spelt, infront_spelt, scrollraster_spelt, endrefresh_spelt, put_spelt, blit_spelt}
 use Rattle.lw_canonical.proofs.SpelledLayers.{create_spelt, open_spelt}
+use Rattle.lw_canonical.proofs.SpelledGzz.{HasSmallBox, small_box, IsGzzSpelt, is_gzz, gzz_only, gzz_spelt}
 use Rattle.std.proofs.lemmas.Result.{IfOk-at_ok}
 use Rattle.std.proofs.lemmas.Bool.{false≢true, eqb-true, and_parts, and_from}
 
@@ -46,15 +49,17 @@ statement_spelt Blit ts = blit_spelt ts
 statement_spelt EndRefresh ts = endrefresh_spelt ts
 statement_spelt AreaVerb ts = tt
 statement_spelt AreaPatternVerb ts = tt
+statement_spelt (Gzz verb) ts = tt
 
 -- The statement's words are these, where it is in range and the words are good ones.
 abbrev IsOfWords : List (List ℕ) → Statement → Type 0
 IsOfWords ws f = AreWords ws → (version : ℕ) → is_line_in_range version f ≡ true → words_of f ≡ ws
 
--- The same of a line's statement; an area isn't asked.
+-- The same of a line; an area isn't asked.
 abbrev SaysWords : List (List ℕ) → Line → Type 0
 SaysWords ws (StatementLine f) = IsOfWords ws f
 SaysWords ws (AreaLine layer pattern points) = Unit {0}
+SaysWords ws (GzzLine g act) = AreWords ws → HasSmallBox act → gzz_words g act ≡ ws
 
 -- an area
 area_words : (ws : List (List ℕ)) (ts : List Token) → IfSome (area_line ts) (SaysWords ws)
@@ -64,6 +69,13 @@ area_words ws _ = tt
 area_pattern_words : (ws : List (List ℕ)) (ts : List Token) → IfSome (area_pattern_line ts) (SaysWords ws)
 area_pattern_words ws (NameToken l ∷ NameToken n ∷ ts) = map_all (SaysWords ws) (λ ps. AreaLine l (Some n) ps) (area_points ts) (λ ps. tt)
 area_pattern_words ws _ = tt
+
+-- what is done with a window of two layers
+gzz_says : (w : List ℕ) (verb : GzzVerb) (ws : List (List ℕ)) → w ≡ gzz_word verb → (o : Option Line) → IfSome o (IsGzzSpelt (gzz_word verb) (map token_of ws)) → IfSome o (λ l. is_gzz l ≡ true) → IfSome o (SaysWords (w ∷ ws))
+gzz_says w verb ws e None h k = tt
+gzz_says w verb ws e (Some (StatementLine f)) h k = absurd (false≢true k)
+gzz_says w verb ws e (Some (AreaLine layer pattern points)) h k = tt
+gzz_says w verb ws e (Some (GzzLine g act)) h k = λ good small. h (tokens_good ws) small ∙ also (sym e) (tokens_back ws good.1)
 
 -- a statement without a verb, by what its words are
 by_tokens : (ws : List (List ℕ)) (f : Statement) → HasWords (map token_word (map token_of ws)) (map token_of ws) f → IsOfWords ws f
@@ -78,6 +90,7 @@ found_words ws (Some f) h = by_tokens ws f h
 by_verb : (w : List ℕ) (v : Verb) (ws : List (List ℕ)) → IsWordOf w v → IfSome (line_by v (map token_of ws)) (SaysWords (w ∷ ws))
 by_verb w AreaVerb ws e = area_words (w ∷ ws) (map token_of ws)
 by_verb w AreaPatternVerb ws e = area_pattern_words (w ∷ ws) (map token_of ws)
+by_verb w (Gzz verb) ws e = gzz_says w verb ws e (gzz_line verb (map token_of ws)) (gzz_spelt verb (map token_of ws)) (gzz_only verb (map token_of ws))
 by_verb w v ws e =
     map_has (IsSpelt (verb_word v) (map token_of ws)) (SaysWords (w ∷ ws)) (λ f. StatementLine f) (statement_by v (map token_of ws)) (statement_spelt v (map token_of ws)) (λ f h good version r. h (tokens_good ws) version r ∙ also (sym e) (tokens_back ws good.1))
 
@@ -146,12 +159,44 @@ joined_line : (line : List ℕ) (ws : List (List ℕ)) → AreWordsOf line ws �
 joined_line line [] h = absurd h
 joined_line line (w ∷ ws) h = h
 
--- Each good line has one spelling.
+-- Each good statement's line has one spelling.
 pub one_spelling : (s : Setting) (above : List Statement) (line : List ℕ) (f : Statement) → line_read s (told above) line ≡ Ok (StatementLine f) → spelled f ≡ line
 one_spelling s above line f e =
     let r = reading s above line f e in
     let words = joined_line line r.ws (IfOk-at_ok (AreWordsOf line) r.split (words_joined line)) in
     ap joined (IfOk-at_ok (SaysWords r.ws) r.statement (statement_words s above r.ws) words.1 (told above).version r.range) ∙ words.0
+
+-- What any line that was read went through.
+pub record IsLineReading (s : Setting) (above : List Statement) (line : List ℕ) (m : Line) : Type 0 where
+  pub printable : list_all is_printable line ≡ true
+  pub ws : List (List ℕ)
+  pub split : tokens line ≡ Ok ws
+  pub made : line_made s.form (told above).version (told above).section (told above).rows_due (told above).row_width ws ≡ Ok m
+  pub tested : line_tested s (told above) m ≡ Ok tt
+
+told_line : (s : Setting) (above : List Statement) (l m : Line) → (line_tested s (told above) l >>= (λ _. Ok l)) ≡ Ok m → (l ≡ m) × (line_tested s (told above) m ≡ Ok tt)
+told_line s above l m h =
+    let t = handed_on (line_tested s (told above) l) (λ _. Ok l) m h in
+    let same : l ≡ m = cc in
+    (same, subst (λ (k : Line). line_tested s (told above) k ≡ Ok tt) same t.1)
+
+pub line_reading : (s : Setting) (above : List Statement) (line : List ℕ) (m : Line) → line_read s (told above) line ≡ Ok m → IsLineReading s above line m
+line_reading s above line m e =
+    let words = handed_on (words_read line) _ m e in
+    let short = demanded (nat_le (length line) line_limit) LineTooLong _ _ words.1 in
+    let clean = demanded (list_all is_printable line) BadByte _ _ short.1 in
+    let made = handed_on (line_made s.form (told above).version (told above).section (told above).rows_due (told above).row_width words.0) _ m words.2 in
+    let told = told_line s above made.0 m made.2 in
+    record { printable = clean.0; ws = words.0; split = clean.1; made = made.1 ∙ ap (λ (l : Line). Ok l) told.0; tested = told.1 }
+
+-- What is done with a window of two layers has one spelling too.
+pub gzz_spelling : (s : Setting) (above : List Statement) (line g : List ℕ) (act : GzzAct) → (told above).width ≤ 32767 → (told above).height ≤ 32767 → line_read s (told above) line ≡ Ok (GzzLine g act) → written (GzzLine g act) ≡ line
+gzz_spelling s above line g act wide high e =
+    let r = line_reading s above line (GzzLine g act) e in
+    let words = joined_line line r.ws (IfOk-at_ok (AreWordsOf line) r.split (words_joined line)) in
+    let range = (gzz_passed (told above) g act r.tested).range in
+    let small = small_box (told above).width (told above).height act wide high range in
+    ap joined (IfOk-at_ok (SaysWords r.ws) r.made (statement_words s above r.ws) words.1 small) ∙ words.0
 
 -- no byte is a line feed
 abbrev pub HasNoFeed : List ℕ → Type 0
@@ -172,8 +217,8 @@ printable_line (b ∷ bs) h =
     and_from (not (b == 10)) _ (printable_byte b k.0) (printable_line bs k.1)
 
 -- A good line has no line feed.
-pub no_feed : (s : Setting) (above : List Statement) (line : List ℕ) (f : Statement) → line_read s (told above) line ≡ Ok (StatementLine f) → list_all (λ b. not (b == 10)) line ≡ true
-no_feed s above line f e = let r = reading s above line f e in printable_line line r.printable
+pub no_feed : (s : Setting) (above : List Statement) (line : List ℕ) (l : Line) → line_read s (told above) line ≡ Ok l → list_all (λ b. not (b == 10)) line ≡ true
+no_feed s above line l e = let r = line_reading s above line l e in printable_line line r.printable
 
 -- a line with its feed is the first of a text that begins with it
 first_line : (line rest : List ℕ) → HasNoFeed line → lines (line ++ 10 ∷ rest) ≡ line ∷ lines rest
@@ -186,14 +231,14 @@ first_line (b ∷ bs) rest h =
     go true n ih = absurd (false≢true n)
     go false n ih = ap (onto_first b) ih
 
--- none of these statements is spelled with a line feed
-abbrev pub HaveNoFeed : List Statement → Type 0
+-- none of these lines is written with a line feed
+abbrev pub HaveNoFeed : List Line → Type 0
 HaveNoFeed [] = Unit {0}
-HaveNoFeed (f ∷ fs) = HasNoFeed (spelled f) × HaveNoFeed fs
+HaveNoFeed (l ∷ ls) = HasNoFeed (written l) × HaveNoFeed ls
 
--- The lines of a text of spelled statements are their spellings.
-pub lines_of_text : (fs : List Statement) → HaveNoFeed fs → lines (flat_map (λ f. line_of (spelled f)) fs) ≡ map spelled fs
+-- The lines of a text of written lines are what is written.
+pub lines_of_text : (ls : List Line) → HaveNoFeed ls → lines (flat_map (λ l. line_of (written l)) ls) ≡ map written ls
 lines_of_text [] h = refl
-lines_of_text (f ∷ fs) h =
-    ap lines (append_assoc (spelled f) (10 ∷ []) (flat_map (λ g. line_of (spelled g)) fs))
-    ∙ (first_line (spelled f) (flat_map (λ g. line_of (spelled g)) fs) h.0 ∙ ap (λ ls. spelled f ∷ ls) (lines_of_text fs h.1))
+lines_of_text (l ∷ ls) h =
+    ap lines (append_assoc (written l) (10 ∷ []) (flat_map (λ m. line_of (written m)) ls))
+    ∙ (first_line (written l) (flat_map (λ m. line_of (written m)) ls) h.0 ∙ ap (λ ws. written l ∷ ws) (lines_of_text ls h.1))

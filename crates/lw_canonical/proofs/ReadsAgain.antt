@@ -3,20 +3,22 @@ use Rattle.std.proofs.Common.{◌≡◌, ℕ, ◌+◌, ◌/◌, ◌≤◌, ◌==
 use Rattle.lw_grammar.specs.declared.form.Form.{Form}
 use Rattle.lw_grammar.specs.declared.reason.Reason.{Reason}
 use Rattle.lw_grammar.specs.declared.reason.Reason.TheVariants.{UnknownWord, Misplaced, Form as FormReason}
+use Rattle.lw_grammar.specs.declared.verb.GzzVerb.{GzzVerb}
 use Rattle.lw_grammar.specs.declared.verb.Verb.{Verb}
-use Rattle.lw_grammar.specs.declared.verb.Verb.TheVariants.{Part, Number, Area as AreaVerb, AreaPattern as AreaPatternVerb}
+use Rattle.lw_grammar.specs.declared.verb.Verb.TheVariants.{Part, Number, Area as AreaVerb, AreaPattern as AreaPatternVerb, Gzz}
 use Rattle.lw_grammar.specs.declared.verb.PartVerb.TheVariants.{Layers as LayersVerb, Pattern as PatternVerb, Order as OrderVerb, Report as ReportVerb}
 use Rattle.lw_grammar.specs.declared.verb.NumberVerb.TheVariants.{Hook as HookVerb}
 use Rattle.lw_calls.specs.declared.limits.Limits.{Limits}
 use Rattle.lw_grammar.specs.Demands.{◌>>=◌, demand}
 use Rattle.lw_grammar.specs.Tokens.{Token, NameToken, NumberToken, token_of}
-use Rattle.lw_grammar.specs.Statements.{NumberAct, Statement, LayersLine, RowLine, PatternLine, OrderLine, ReportLine, CallLine, Line, StatementLine, AreaLine, row_line, numbers_line, alone_line, layers_line, is_pattern_count, pattern_words, pattern_line, number_line, area_points, area_line, area_pattern_line, line_by}
+use Rattle.lw_grammar.specs.Statements.{NumberAct, Statement, LayersLine, RowLine, PatternLine, OrderLine, ReportLine, CallLine, Line, StatementLine, AreaLine, GzzLine, row_line, numbers_line, alone_line, layers_line, is_pattern_count, pattern_words, pattern_line, number_line, area_points, area_line, area_pattern_line, line_by, gzz_line}
 use Rattle.lw_grammar.specs.Told.{Section, Told, told}
-use Rattle.lw_grammar.specs.Script.{Setting, is_skipped, are_numbers_due, is_nothing_due, is_known_in, belongs_in, verb_on, after_verb, are_few, words_read, verb_read, stated, line_made, statement_tested, line_tested, line_read}
+use Rattle.lw_grammar.specs.Script.{Setting, is_skipped, are_numbers_due, is_nothing_due, is_known_in, belongs_in, verb_on, after_verb, are_few, words_read, verb_read, stated, line_made, line_tested, line_read}
 use Rattle.lw_calls.specs.Written.{hex_digit}
 use Rattle.lw_canonical.specs.Spelling.{spelled}
 use Rattle.lw_grammar.proofs.ScriptStatements.{either_has, map_has, map_all}
 use Rattle.lw_grammar.proofs.ScriptSizes.{counted_few}
+use Rattle.lw_canonical.proofs.SpelledGzz.{is_gzz, gzz_only}
 use Rattle.lw_canonical.proofs.Rearranged.{IsWritten, is_passed}
 use Rattle.std.proofs.lemmas.Bool.{false≢true, or_from, ne_eqb}
 
@@ -42,6 +44,7 @@ is_of_each f = true
 abbrev says : (Statement → Bool) → Line → Bool
 says P (StatementLine f) = P f
 says P (AreaLine layer pattern points) = false
+says P (GzzLine g act) = false
 
 -- a line with such a statement is none of a verb that has no such lines
 other_verb : (P : Statement → Bool) (known stands : Bool) (o : Option Line) (f : Statement) → IfSome o (λ l. says P l ≡ false) → P f ≡ true → (demand known UnknownWord >>= (λ _. demand stands Misplaced >>= (λ _. ok_or o FormReason))) ≡ Ok (StatementLine f) → ⊥
@@ -79,6 +82,16 @@ area_pattern_only : (ts : List Token) → IfSome (area_pattern_line ts) (λ l. s
 area_pattern_only (NameToken l ∷ NameToken n ∷ ts) = map_all (λ k. says is_of_each k ≡ false) (λ ps. AreaLine l (Some n) ps) (area_points ts) (λ ps. refl)
 area_pattern_only _ = tt
 
+-- nor has a line that is done with a window of two layers such a statement
+not_of_each : (o : Option Line) → IfSome o (λ l. is_gzz l ≡ true) → IfSome o (λ l. says is_of_each l ≡ false)
+not_of_each None h = tt
+not_of_each (Some (StatementLine f)) h = absurd (false≢true h)
+not_of_each (Some (AreaLine layer pattern points)) h = refl
+not_of_each (Some (GzzLine g act)) h = refl
+
+gzz_not_of_each : (verb : GzzVerb) (ts : List Token) → IfSome (gzz_line verb ts) (λ l. says is_of_each l ≡ false)
+gzz_not_of_each verb ts = not_of_each (gzz_line verb ts) (gzz_only verb ts)
+
 -- What is read of a verb with these words, in this input, version and section.
 abbrev read_of : Form → ℕ → Section → List Token → Option Verb → Result Line Reason
 read_of form version c ts o =
@@ -104,6 +117,7 @@ version_kept form m n c f f_of ws e = at_verb (map token_of (after_verb ws)) (ve
     at_verb ts (Some (Number HookVerb)) d = absurd (other_statement is_of_each (is_known_in m (Number HookVerb)) (belongs_in form m c (Number HookVerb)) (number_line HookVerb ts) f (hook_only ts) f_of d)
     at_verb ts (Some (Part PatternVerb)) d = absurd (other_statement is_of_each (is_known_in m (Part PatternVerb)) (belongs_in form m c (Part PatternVerb)) (pattern_line ts) f (pattern_only ts) f_of d)
     at_verb ts (Some AreaVerb) d = absurd (other_verb is_of_each (is_known_in m AreaVerb) (belongs_in form m c AreaVerb) (area_line ts) f (area_only ts) f_of d)
+    at_verb ts (Some (Gzz verb)) d = absurd (other_verb is_of_each (is_known_in m (Gzz verb)) (belongs_in form m c (Gzz verb)) (gzz_line verb ts) f (gzz_not_of_each verb ts) f_of d)
     at_verb ts (Some AreaPatternVerb) d = absurd (other_verb is_of_each (is_known_in m AreaPatternVerb) (belongs_in form m c AreaPatternVerb) (area_pattern_line ts) f (area_pattern_only ts) f_of d)
     at_verb ts (Some v) d = d
 
@@ -134,32 +148,32 @@ row_statements s t above below some_rows some_below width f ws e =
     from : (u : Setting) (lines : List Statement) → ((told lines).rows_due == 0) ≡ false → line_made u.form (told lines).version (told lines).section (told lines).rows_due (told lines).row_width ws ≡ ok_or (stated (row_line (told lines).row_width (map token_of ws))) FormReason
     from u lines d = ap (λ b. line_at b (told lines).row_width u.form (told lines).version (told lines).section ws) d
 
--- a line of which the same statement is read is good again, where this statement passes its tests
-pub read_again : (s t : Setting) (above below : List Statement) (line : List ℕ) (f : Statement) → ((ws : List (List ℕ)) → line_made s.form (told above).version (told above).section (told above).rows_due (told above).row_width ws ≡ Ok (StatementLine f) → line_made t.form (told below).version (told below).section (told below).rows_due (told below).row_width ws ≡ Ok (StatementLine f)) → statement_tested t (told below) f ≡ Ok tt → line_read s (told above) line ≡ Ok (StatementLine f) → line_read t (told below) line ≡ Ok (StatementLine f)
-read_again s t above below line f same tested read = at_words (words_read line) read
+-- a line that says the same again is good again, where what it says passes its tests
+pub read_again : (s t : Setting) (above below : List Statement) (line : List ℕ) (m : Line) → ((ws : List (List ℕ)) → line_made s.form (told above).version (told above).section (told above).rows_due (told above).row_width ws ≡ Ok m → line_made t.form (told below).version (told below).section (told below).rows_due (told below).row_width ws ≡ Ok m) → line_tested t (told below) m ≡ Ok tt → line_read s (told above) line ≡ Ok m → line_read t (told below) line ≡ Ok m
+read_again s t above below line m same tested read = at_words (words_read line) read
   where
-    at_test : (l : Line) (r : Result (Unit {0}) Reason) → (r >>= (λ _. Ok l)) ≡ Ok (StatementLine f) → (let o : Result Line Reason = Ok l in o ≡ Ok (StatementLine f))
+    at_test : (l : Line) (r : Result (Unit {0}) Reason) → (r >>= (λ _. Ok l)) ≡ Ok m → (let o : Result Line Reason = Ok l in o ≡ Ok m)
     at_test l (Ok u) e = e
     at_test l (Err r) e = absurd (cc)
 
-    at_line : (r : Result Line Reason) → (r >>= (λ l. line_tested s (told above) l >>= (λ _. Ok l))) ≡ Ok (StatementLine f) → r ≡ Ok (StatementLine f)
+    at_line : (r : Result Line Reason) → (r >>= (λ l. line_tested s (told above) l >>= (λ _. Ok l))) ≡ Ok m → r ≡ Ok m
     at_line (Err r) e = absurd (cc)
     at_line (Ok l) e = at_test l (line_tested s (told above) l) e
 
-    put : (r : Result Line Reason) → Ok (StatementLine f) ≡ r → (r >>= (λ l. line_tested t (told below) l >>= (λ _. Ok l))) ≡ Ok (StatementLine f)
+    put : (r : Result Line Reason) → Ok m ≡ r → (r >>= (λ l. line_tested t (told below) l >>= (λ _. Ok l))) ≡ Ok m
     put r e =
-        let P : Result Line Reason → Type 0 = λ o. (o >>= (λ l. line_tested t (told below) l >>= (λ _. Ok l))) ≡ Ok (StatementLine f) in
-        let Q : Result (Unit {0}) Reason → Type 0 = λ o. (o >>= (λ _. Ok (StatementLine f))) ≡ Ok (StatementLine f) in
-        let last : Q (statement_tested t (told below) f) = subst Q (sym tested) refl in
+        let P : Result Line Reason → Type 0 = λ o. (o >>= (λ l. line_tested t (told below) l >>= (λ _. Ok l))) ≡ Ok m in
+        let Q : Result (Unit {0}) Reason → Type 0 = λ o. (o >>= (λ _. Ok m)) ≡ Ok m in
+        let last : Q (line_tested t (told below) m) = subst Q (sym tested) refl in
         subst P e last
 
-    at_words : (w : Result (List (List ℕ)) Reason) → (w >>= (λ ws. line_made s.form (told above).version (told above).section (told above).rows_due (told above).row_width ws >>= (λ l. line_tested s (told above) l >>= (λ _. Ok l)))) ≡ Ok (StatementLine f) → (w >>= (λ ws. line_made t.form (told below).version (told below).section (told below).rows_due (told below).row_width ws >>= (λ l. line_tested t (told below) l >>= (λ _. Ok l)))) ≡ Ok (StatementLine f)
+    at_words : (w : Result (List (List ℕ)) Reason) → (w >>= (λ ws. line_made s.form (told above).version (told above).section (told above).rows_due (told above).row_width ws >>= (λ l. line_tested s (told above) l >>= (λ _. Ok l)))) ≡ Ok m → (w >>= (λ ws. line_made t.form (told below).version (told below).section (told below).rows_due (told below).row_width ws >>= (λ l. line_tested t (told below) l >>= (λ _. Ok l)))) ≡ Ok m
     at_words (Err r) e = absurd (cc)
     at_words (Ok ws) e = put (line_made t.form (told below).version (told below).section (told below).rows_due (told below).row_width ws) (sym (same ws (at_line (line_made s.form (told above).version (told above).section (told above).rows_due (told above).row_width ws) e)))
 
 -- A statement that is written where it stood is written again.
-pub spelled_again : (s t : Setting) (above below : List Statement) (f : Statement) → IsWritten s above f → ((ws : List (List ℕ)) → line_made s.form (told above).version (told above).section (told above).rows_due (told above).row_width ws ≡ Ok (StatementLine f) → line_made t.form (told below).version (told below).section (told below).rows_due (told below).row_width ws ≡ Ok (StatementLine f)) → statement_tested t (told below) f ≡ Ok tt → IsWritten t below f
-spelled_again s t above below f w same tested = read_again s t above below (spelled f) f same tested w
+pub spelled_again : (s t : Setting) (above below : List Statement) (f : Statement) → IsWritten s above f → ((ws : List (List ℕ)) → line_made s.form (told above).version (told above).section (told above).rows_due (told above).row_width ws ≡ Ok (StatementLine f) → line_made t.form (told below).version (told below).section (told below).rows_due (told below).row_width ws ≡ Ok (StatementLine f)) → line_tested t (told below) (StatementLine f) ≡ Ok tt → IsWritten t below f
+spelled_again s t above below f w same tested = read_again s t above below (spelled f) (StatementLine f) same tested w
 
 -- Counts of which all but one are none are few.
 pub few_by_bitmaps : (limits : Limits) (t : Told) → t.tasks ≡ [] → length t.bitmap_names ≤ 16 → t.pattern_names ≡ [] → t.names ≡ [] → t.supers ≡ 0 → t.so_far ≡ 0 → are_few limits t ≡ true

@@ -8,12 +8,12 @@ use Rattle.lw_grammar.specs.Tokens.{token_of}
 use Rattle.lw_grammar.specs.Verbs.{verb_word, verb_of}
 use Rattle.lw_grammar.specs.Statements.{Statement, StatementLine, row_line, numbers_line, line_by}
 use Rattle.lw_grammar.specs.Told.{Told}
-use Rattle.lw_grammar.specs.Script.{Setting, are_numbers_due, is_known_in, belongs_in, words_read, verb_read, stated, line_made, statement_tested, line_tested, line_of_words, line_read}
+use Rattle.lw_grammar.specs.Script.{Setting, are_numbers_due, is_known_in, belongs_in, words_read, verb_read, stated, line_made, line_tested, line_of_words, line_read}
 use Rattle.lw_canonical.specs.Spelling.{joined, words_of, spelled}
 use Rattle.lw_canonical.proofs.PlainWords.{is_plain, words_read_back}
 
 -- The statement passes its tests, and stands here.
-pub line_reads : (s : Setting) (t : Told) (f : Statement) (v : Verb) (ws : List (List ℕ)) → words_of f ≡ verb_word v ∷ ws → list_all is_plain (verb_word v ∷ ws) ≡ true → length ws ≤ 8 → verb_of (verb_word v) ≡ Some v → is_known_in t.version v ≡ true → line_by v (map token_of ws) ≡ Some (StatementLine f) → (t.rows_due == 0) ≡ true → are_numbers_due t.section ≡ false → belongs_in s.form t.version t.section v ≡ true → statement_tested s t f ≡ Ok tt → line_read s t (spelled f) ≡ Ok (StatementLine f)
+pub line_reads : (s : Setting) (t : Told) (f : Statement) (v : Verb) (ws : List (List ℕ)) → words_of f ≡ verb_word v ∷ ws → list_all is_plain (verb_word v ∷ ws) ≡ true → length ws ≤ 8 → verb_of (verb_word v) ≡ Some v → is_known_in t.version v ≡ true → line_by v (map token_of ws) ≡ Some (StatementLine f) → (t.rows_due == 0) ≡ true → are_numbers_due t.section ≡ false → belongs_in s.form t.version t.section v ≡ true → line_tested s t (StatementLine f) ≡ Ok tt → line_read s t (spelled f) ≡ Ok (StatementLine f)
 line_reads s t f v ws words plain few verb known by rows numbers stands tested =
     let all : List (List ℕ) = verb_word v ∷ ws in
     let split : words_read (spelled f) ≡ Ok all = ap (λ us. words_read (joined us)) words ∙ words_read_back (verb_word v) ws plain few in

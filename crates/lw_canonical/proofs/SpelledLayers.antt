@@ -17,7 +17,7 @@ use Rattle.lw_canonical.proofs.SpelledStatements.{IsSpelt}
 use Rattle.std.proofs.lemmas.Bool.{false≢true, eqb-true, and_parts}
 
 -- What was taken of words, and what is left of them, give the words back, and the rest is good for what it is.
-abbrev IsTaken : List Token → List (List ℕ) → List Token → Type 0
+abbrev pub IsTaken : List Token → List (List ℕ) → List Token → Type 0
 IsTaken ts taken rest = (map token_word ts ≡ taken ++ map token_word rest) × AreTokens rest
 
 -- an optional word
@@ -55,7 +55,7 @@ hook_taken (TextToken a ∷ ts) t r = (refl, t)
 hook_taken (OddToken a ∷ ts) t r = (refl, t)
 
 -- optional words ask SET
-ask_taken : (ts : List Token) → AreTokens ts → IsTaken ts (ask_words (ask_option ts).0) (ask_option ts).1
+pub ask_taken : (ts : List Token) → AreTokens ts → IsTaken ts (ask_words (ask_option ts).0) (ask_option ts).1
 ask_taken [] t = (refl, tt)
 ask_taken (NameToken n ∷ []) t = (refl, t)
 ask_taken (NameToken n ∷ NameToken set ∷ ts) t = step (bytes_eq n (codes "ask")) refl
@@ -197,13 +197,13 @@ kind_spelt w =
     let P : Kind → Type 0 = λ kind. w ≡ kind_word kind in
     found_if P (bytes_eq w (codes "simple")) Simple _ (equal_names w (codes "simple")) (found_if P (bytes_eq w (codes "smart")) Smart _ (equal_names w (codes "smart")) (found_if P (bytes_eq w (codes "super")) SuperBitmap None (equal_names w (codes "super")) tt))
 
-place_spelt : (w : List ℕ) → IfSome (place_of w) (λ place. w ≡ place_word place)
+pub place_spelt : (w : List ℕ) → IfSome (place_of w) (λ place. w ≡ place_word place)
 place_spelt w =
     let P : Place → Type 0 = λ place. w ≡ place_word place in
     found_if P (bytes_eq w (codes "front")) Front _ (equal_names w (codes "front")) (found_if P (bytes_eq w (codes "behind")) Behind None (equal_names w (codes "behind")) tt)
 
 -- what is found first, and then next
-then_by : {A B : Type 0} (Q : A → Type 0) (P : B → Type 0) (g : A → Option B) (o : Option A) → IfSome o Q → ((a : A) → Q a → IfSome (g a) P) → IfSome (option_and_then g o) P
+pub then_by : {A B : Type 0} (Q : A → Type 0) (P : B → Type 0) (g : A → Option B) (o : Option A) → IfSome o Q → ((a : A) → Q a → IfSome (g a) P) → IfSome (option_and_then g o) P
 then_by Q P g None q h = tt
 then_by Q P g (Some a) q h = h a q
 

@@ -1,23 +1,34 @@
 -- A line of a task is read in a script alone as it was read where it stood.
-use Rattle.std.proofs.Common.{◌≡◌, ℕ, ◌==◌, Bool, true, false, ◌||◌, nat_lt, List, [], ◌∷◌, length, bytes_eq, Option, Ok, refl, sym, ap, subst, ◌∙◌, arith}
-use Rattle.std.specs.List.{list_any}
+use Rattle.std.proofs.Common.{◌≡◌, ℕ, ◌==◌, Bool, true, false, ◌||◌, nat_lt, List, [], ◌∷◌, length, bytes_eq, Option, None, Some, is_none, Result, Ok, ok_or, not, cond, map, refl, sym, ap, ap₂, subst, ◌∙◌, arith}
+use Rattle.std.specs.List.{list_any, list_all}
 use Rattle.lw_calls.specs.declared.operation.RectOp.TheVariants.{Or as OrR}
 use Rattle.lw_calls.specs.declared.operation.PairOp.TheVariants.{Or as OrP}
 use Rattle.lw_calls.specs.declared.limits.Limits.{Limits}
 use Rattle.lw_calls.specs.Limits.{limits_of}
+use Rattle.lw_grammar.specs.declared.form.Form.{Form}
+use Rattle.lw_grammar.specs.declared.reason.Reason.{Reason}
+use Rattle.lw_grammar.specs.declared.reason.Reason.TheVariants.{UnknownWord, Misplaced, Form as FormReason}
+use Rattle.lw_grammar.specs.declared.verb.Verb.{Verb}
+use Rattle.lw_grammar.specs.declared.verb.Verb.TheVariants.{Part}
+use Rattle.lw_grammar.specs.declared.verb.PartVerb.TheVariants.{Order as OrderVerb, Report as ReportVerb}
+use Rattle.lw_grammar.specs.Demands.{◌>>=◌, demand}
+use Rattle.lw_grammar.specs.Tokens.{Token, token_of}
 use Rattle.lw_grammar.specs.declared.verb.BareVerb.TheVariants.{Close as CloseVerb}
 use Rattle.lw_grammar.specs.declared.verb.NumberVerb.TheVariants.{APen as APenVerb}
 use Rattle.lw_grammar.specs.declared.verb.PairVerb.TheVariants.{Move as MoveVerb}
 use Rattle.lw_grammar.specs.declared.verb.TextVerb.TheVariants.{Text as TextOf}
-use Rattle.lw_grammar.specs.Statements.{Act, BareAct, NumberAct, PairAct, TextAct, RegRectAct, RegPairAct, Statement, GlyphLine, BitmapLine, RowLine, PatternLine, TaskLine, OrderLine, NumbersLine, ReportLine, CallLine, StatementLine, is_line_in_range}
-use Rattle.lw_grammar.specs.Told.{Section, ScreenIsDue, AssetsAreDue, CallsAreDue, TasksAreDue, NumbersAreDue, NothingIsDue, OpenGroup, hook_on, told}
-use Rattle.lw_grammar.specs.Script.{Setting, is_skipped, are_assets_due, are_calls_due, are_tasks_due, is_nothing_due, lacks_name, gives_again, fits_group, are_few, is_used, has_padding, verb_read, line_made, line_read}
-use Rattle.lw_canonical.specs.Spelling.{joined, call_words, words_of, spelled}
+use Rattle.lw_grammar.specs.Statements.{Act, BareAct, NumberAct, PairAct, TextAct, RegRectAct, RegPairAct, Statement, GlyphLine, BitmapLine, RowLine, PatternLine, TaskLine, OrderLine, NumbersLine, ReportLine, CallLine, NameSeen, PairMade, GzzAct, OpenGzz, BoxGzz, FrontGzz, BehindGzz, InFrontGzz, CloseGzz, Line, StatementLine, GzzLine, row_line, numbers_line, line_by, is_line_in_range, is_gzz_in_range}
+use Rattle.lw_grammar.specs.Told.{Section, ScreenIsDue, AssetsAreDue, CallsAreDue, TasksAreDue, NumbersAreDue, NothingIsDue, OpenGroup, NamedPair, Told, hook_on, gzz_lines, stands_for, told, told_all}
+use Rattle.lw_grammar.specs.Script.{Setting, is_skipped, are_assets_due, are_calls_due, are_tasks_due, is_nothing_due, lacks_name, gives_again, fits_group, are_few, is_used, has_padding, parts_pair, stands_above, lacks_pair, names_again, comes_between, are_numbers_due, is_known_in, belongs_in, verb_on, after_verb, verb_read, stated as stated_line, line_made, tested_with, gzz_tested, line_tested, line_read, added}
+use Rattle.lw_canonical.specs.Spelling.{joined, call_words, words_of, spelled, gzz_words, written}
 use Rattle.lw_grammar.proofs.ScriptSizes.{IsStatementTested, tests_pass, few_counted, counted_few}
 use Rattle.lw_canonical.proofs.Rearranged.{is_of_tasks, alone}
+use Rattle.lw_grammar.proofs.GzzLines.{IsGzzTested, gzz_passed}
+use Rattle.lw_grammar.proofs.AreaLines.{told_added}
+use Rattle.lw_canonical.proofs.OneSpelling.{line_reading}
 use Rattle.lw_canonical.proofs.ReadsAgain.{is_in_each, form_kept, verb_statements, read_again}
 use Rattle.lw_canonical.proofs.NotionsAlike.{section_alone, AreAlike, alike_more}
-use Rattle.std.proofs.lemmas.Bool.{true≢false, false≢true}
+use Rattle.std.proofs.lemmas.Bool.{true≢false, false≢true, not_from_false, and_parts, or_parts, or_from}
 
 -- the first of a line's words
 abbrev first_word : List (List ℕ) → List ℕ
@@ -41,15 +52,41 @@ call_kept layers (PairAct MoveVerb x y) = refl
 call_kept layers (TextAct TextOf text) = refl
 call_kept layers act = refl
 
--- neither is another line of tasks
-task_kept : (f : Statement) → is_of_tasks f ≡ true → is_skipped (first_word (words_of f)) ≡ false
-task_kept (RowLine bytes) t = absurd (false≢true t)
-task_kept (NumbersLine zs) t = absurd (false≢true t)
-task_kept (CallLine layers act) t = call_kept layers act
-task_kept f t = refl
+-- a line may stand for the statement alone
+abbrev pub has_line : Statement → Bool
+has_line (NameSeen name) = false
+has_line (PairMade outer inner) = false
+has_line f = true
 
-pub task_not_skipped : (f : Statement) → is_of_tasks f ≡ true → is_skipped (spelled f) ≡ false
-task_not_skipped f t = first_kept (words_of f) (task_kept f t)
+-- so it is of what was read
+pub read_has_line : (s : Setting) (t : Told) (f : Statement) → line_read s t (spelled f) ≡ Ok (StatementLine f) → has_line f ≡ true
+read_has_line s t (NameSeen name) e = absurd (cc)
+read_has_line s t (PairMade outer inner) e = absurd (cc)
+read_has_line s t f e = refl
+
+-- neither is another line of tasks
+task_kept : (f : Statement) → is_of_tasks f ≡ true → has_line f ≡ true → is_skipped (first_word (words_of f)) ≡ false
+task_kept (RowLine bytes) t l = absurd (false≢true t)
+task_kept (NumbersLine zs) t l = absurd (false≢true t)
+task_kept (NameSeen name) t l = absurd (false≢true t)
+task_kept (PairMade outer inner) t l = absurd (false≢true l)
+task_kept (CallLine layers act) t l = call_kept layers act
+task_kept f t l = refl
+
+pub task_not_skipped : (f : Statement) → is_of_tasks f ≡ true → has_line f ≡ true → is_skipped (spelled f) ≡ false
+task_not_skipped f t l = first_kept (words_of f) (task_kept f t l)
+
+-- nor what is done with a window of two layers
+gzz_kept : (g : List ℕ) (act : GzzAct) → is_skipped (first_word (gzz_words g act)) ≡ false
+gzz_kept g (OpenGzz inner kind place r classes title) = refl
+gzz_kept g (BoxGzz r) = refl
+gzz_kept g FrontGzz = refl
+gzz_kept g BehindGzz = refl
+gzz_kept g (InFrontGzz m) = refl
+gzz_kept g CloseGzz = refl
+
+pub gzz_not_skipped : (g : List ℕ) (act : GzzAct) → is_skipped (written (GzzLine g act)) ≡ false
+gzz_not_skipped g act = first_kept (gzz_words g act) (gzz_kept g act)
 
 -- it stands in each input
 task_in_each : (f : Statement) → is_of_tasks f ≡ true → is_in_each f ≡ true
@@ -132,6 +169,102 @@ tests_alone s above new f o a t =
     }
 
 -- Below lines that tell the same, a line of tasks is read as the same statement in a script alone.
-pub read_alone : (s : Setting) (above new : List Statement) (f : Statement) (line : List ℕ) → is_of_tasks f ≡ true → ((told above).rows_due == 0) ≡ true → is_inner (told above).section ≡ true → AreAlike above new → IsStatementTested s above f → line_read s (told above) line ≡ Ok (StatementLine f) → line_read (alone s) (told new) line ≡ Ok (StatementLine f)
-read_alone s above new f line o e c a t read =
-    read_again s (alone s) above new line f (λ ws k. statement_alone s above new f ws o e c a k) (tests_pass (alone s) new f (tests_alone s above new f o a t)) read
+pub read_alone : (s : Setting) (above new : List Statement) (f : Statement) (line : List ℕ) → is_of_tasks f ≡ true → ((told above).rows_due == 0) ≡ true → is_inner (told above).section ≡ true → AreAlike above new → IsStatementTested s above f → parts_pair (told above).pairs f ≡ false → line_read s (told above) line ≡ Ok (StatementLine f) → line_read (alone s) (told new) line ≡ Ok (StatementLine f)
+read_alone s above new f line o e c a t apart read =
+    let P : Bool → Type 0 = λ b. tested_with (alone s) (told new) b f ≡ Ok tt in
+    let still : parts_pair (told new).pairs f ≡ false = ap (λ (pairs : List NamedPair). parts_pair pairs f) a.pairs ∙ apart in
+    let tested : line_tested (alone s) (told new) (StatementLine f) ≡ Ok tt = subst P (sym still) (tests_pass (alone s) new f (tests_alone s above new f o a t)) in
+    read_again s (alone s) above new line (StatementLine f) (λ ws k. statement_alone s above new f ws o e c a k) tested read
+
+-- In a task, what a line says doesn't depend on the input.
+any_form : (a b : Form) (version : ℕ) (ws : List (List ℕ)) → verb_read a version CallsAreDue ws ≡ verb_read b version CallsAreDue ws
+any_form a b version ws = at_verb (map token_of (after_verb ws)) (verb_on ws)
+  where
+    read : Form → List Token → Option Verb → Result Line Reason
+    read form ts o = ok_or o UnknownWord >>= (λ v. demand (is_known_in version v) UnknownWord >>= (λ _. demand (belongs_in form version CallsAreDue v) Misplaced >>= (λ _. ok_or (line_by v ts) FormReason)))
+
+    at_verb : (ts : List Token) (o : Option Verb) → read a ts o ≡ read b ts o
+    at_verb ts None = refl
+    at_verb ts (Some (Part OrderVerb)) = refl
+    at_verb ts (Some (Part ReportVerb)) = refl
+    at_verb ts (Some v) = refl
+
+-- it is a line with a verb
+in_task : (u : Setting) (lines : List Statement) (ws : List (List ℕ)) → ((told lines).rows_due == 0) ≡ true → (told lines).section ≡ CallsAreDue → line_made u.form (told lines).version (told lines).section (told lines).rows_due (told lines).row_width ws ≡ verb_read u.form (told lines).version CallsAreDue ws
+in_task u lines ws e c =
+    λ i. cond (not (e i)) (ok_or (stated_line (row_line (told lines).row_width (map token_of ws))) FormReason) (cond (are_numbers_due (c i)) (ok_or (stated_line (numbers_line (map token_of ws))) FormReason) (verb_read u.form (told lines).version (c i) ws))
+
+-- statements of tasks that are added to both
+pub all_alike : (fs above new : List Statement) → list_all is_of_tasks fs ≡ true → AreAlike above new → AreAlike (added fs above) (added fs new)
+all_alike [] above new h a = a
+all_alike (f ∷ fs) above new h a =
+    let k = and_parts (is_of_tasks f) (list_all is_of_tasks fs) h in
+    all_alike fs (f ∷ above) (f ∷ new) k.1 (alike_more above new a f k.0)
+
+-- so are all statements of what is done with a window of two layers
+pub gzz_of_tasks : (pairs : List NamedPair) (g : List ℕ) (act : GzzAct) → list_all is_of_tasks (gzz_lines pairs g act) ≡ true
+gzz_of_tasks pairs g (OpenGzz inner kind place r classes title) = refl
+gzz_of_tasks pairs g (BoxGzz r) = refl
+gzz_of_tasks pairs g FrontGzz = refl
+gzz_of_tasks pairs g BehindGzz = refl
+gzz_of_tasks pairs g (InFrontGzz m) = refl
+gzz_of_tasks pairs g CloseGzz = refl
+
+-- where it stands for the same
+pub same_gzz : (above new : List Statement) (g : List ℕ) (act : GzzAct) → AreAlike above new → stands_for (told new) (GzzLine g act) ≡ stands_for (told above) (GzzLine g act)
+same_gzz above new g act a = ap (λ (pairs : List NamedPair). gzz_lines pairs g act) a.pairs
+
+-- names that don't stand above don't below lines that tell the same
+not_again : (above new : List Statement) (name : List ℕ) → AreAlike above new → stands_above (told above) name ≡ false → stands_above (told new) name ≡ false
+not_again above new name a h =
+    let k = or_parts (list_any (bytes_eq name) (told above).names) _ h in
+    or_from _ _ (ap (list_any (bytes_eq name)) a.names ∙ k.0) (ap (list_any (bytes_eq name)) a.seen)
+
+not_names_again : (above new : List Statement) (g : List ℕ) (act : GzzAct) → AreAlike above new → names_again (told above) g act ≡ false → names_again (told new) g act ≡ false
+not_names_again above new g (OpenGzz inner kind place r classes title) a h =
+    let k = or_parts (stands_above (told above) g || stands_above (told above) inner) _ h in
+    let m = or_parts (stands_above (told above) g) _ k.0 in
+    or_from _ _ (or_from _ _ (not_again above new g a m.0) (not_again above new inner a m.1)) k.1
+not_names_again above new g act a h = refl
+
+-- each test that holds is passed
+demand_passes : (b : Bool) (r : Reason) (t : Result (Unit {0}) Reason) → b ≡ true → t ≡ Ok tt → (demand b r >>= (λ _. t)) ≡ Ok tt
+demand_passes true r t e h = h
+demand_passes false r t e h = absurd (false≢true e)
+
+last_passes : (b : Bool) (r : Reason) → b ≡ true → demand b r ≡ Ok tt
+last_passes true r e = refl
+last_passes false r e = absurd (false≢true e)
+
+gzz_pass : (t : Told) (g : List ℕ) (act : GzzAct) → IsGzzTested t g act → gzz_tested t g act ≡ Ok tt
+gzz_pass t g act k =
+    demand_passes _ _ _ k.range (demand_passes _ _ _ (not_from_false _ k.known) (demand_passes _ _ _ (not_from_false _ k.new) (demand_passes _ _ _ (not_from_false _ k.apart) (demand_passes _ _ _ k.group (last_passes _ _ k.few)))))
+
+-- So is what is done with a window of two layers.
+gzz_tests_alone : (above new : List Statement) (g : List ℕ) (act : GzzAct) → AreAlike above new → gzz_tested (told above) g act ≡ Ok tt → gzz_tested (told new) g act ≡ Ok tt
+gzz_tests_alone above new g act a h =
+    let t = gzz_passed (told above) g act h in
+    let fs : List Statement = gzz_lines (told above).pairs g act in
+    let more = all_alike fs above new (gzz_of_tasks (told above).pairs g act) a in
+    let limits : Limits = limits_of (told above).version in
+    let P : Told → Type 0 = λ u. are_few limits u ≡ true in
+    let few : are_few limits (told (added fs new)) ≡ true = few_alike limits (added fs above) (added fs new) more (subst P (sym (told_added fs above)) t.few) in
+    let all : are_few limits (told_all (stands_for (told new) (GzzLine g act)) (told new)) ≡ true = ap (λ (gs : List Statement). are_few limits (told_all gs (told new))) (same_gzz above new g act a) ∙ subst P (told_added fs new) few in
+    gzz_pass (told new) g act (record {
+      range = ap₂ (λ (w h : ℕ). is_gzz_in_range w h act) a.width a.height ∙ t.range;
+      known = ap (λ (pairs : List NamedPair). lacks_pair pairs g act) a.pairs ∙ t.known;
+      new = not_names_again above new g act a t.new;
+      apart = ap (λ (pairs : List NamedPair). comes_between pairs act) a.pairs ∙ t.apart;
+      group = ap (λ (o : Option OpenGroup). is_none o) a.group ∙ t.group;
+      few = ap (λ version. are_few (limits_of version) (told_all (stands_for (told new) (GzzLine g act)) (told new))) a.version ∙ all;
+    })
+
+pub gzz_alone : (s : Setting) (above new : List Statement) (line g : List ℕ) (act : GzzAct) → ((told above).rows_due == 0) ≡ true → (told above).section ≡ CallsAreDue → AreAlike above new → line_read s (told above) line ≡ Ok (GzzLine g act) → line_read (alone s) (told new) line ≡ Ok (GzzLine g act)
+gzz_alone s above new line g act e c a read =
+    let r = line_reading s above line (GzzLine g act) read in
+    let P : ℕ → Type 0 = λ n. (n == 0) ≡ true in
+    let due : ((told new).rows_due == 0) ≡ true = subst P (sym a.due) refl in
+    let here : (told new).section ≡ CallsAreDue = a.section ∙ ap section_alone c in
+    let again : (ws : List (List ℕ)) → line_made s.form (told above).version (told above).section (told above).rows_due (told above).row_width ws ≡ Ok (GzzLine g act) → line_made (alone s).form (told new).version (told new).section (told new).rows_due (told new).row_width ws ≡ Ok (GzzLine g act) =
+    λ ws k. in_task (alone s) new ws due here ∙ (ap (λ version. verb_read (alone s).form version CallsAreDue ws) a.version ∙ (any_form (alone s).form s.form (told above).version ws ∙ (sym (in_task s above ws e c) ∙ k))) in
+    read_again s (alone s) above new line (GzzLine g act) again (gzz_tests_alone above new g act a r.tested) read

@@ -1,25 +1,30 @@
 -- The canonical text of a plan: a script without skipped lines that spells the plan. After the line of version 2, in a plan of
 -- it, and the screen come the glyphs with some bit set in the order of their codes, the bitmaps with their rows, and the tasks.
--- It has no patterns and no areas: an area's fills are calls like others.
-use Rattle.std.specs.Prelude.{ℕ, ◌+◌, ◌==◌, Bool, true, false, if◌then◌else◌, List, [], ◌∷◌, ◌++◌, map, drop, length, ℤ, pos, ◌+ℤ◌, ◌-ℤ◌, option_map, slice_index_or}
-use Rattle.std.specs.List.{list_all, flat_map, range_with_len}
+-- It has no patterns and no areas: an area's fills are calls like others. A group that stands for what is done with a window
+-- of two layers is one line.
+use Rattle.std.specs.Prelude.{ℕ, ◌+◌, ◌==◌, Bool, true, false, ◌&&◌, nat_le, if◌then◌else◌, List, [], ◌∷◌, ◌++◌, map, drop, length, ℤ, pos, ◌+ℤ◌, ◌-ℤ◌, Option, Some, None, is_some, option_map, slice_index_or}
+use Rattle.std.specs.List.{list_any, list_all, flat_map, range_with_len}
 use Rattle.lw_planes.specs.Bitmap.{Bitmap, plane_row}
 use Rattle.lw_calls.specs.declared.make.Make.{Make}
+use Rattle.lw_calls.specs.declared.pair.Pair.{Pair}
 use Rattle.lw_calls.specs.declared.call.Call.{Call}
 use Rattle.lw_calls.specs.declared.call.Call.TheVariants.{RegRect, RegPair, RegClear, Create, OpenWindow, Close, ToFront, ToBack, InFrontOf, MoveBy, SizeBy, SetBox, Activate, SetHook, Which, SetA, SetB, SetMode, SetMask, At, WritePixel, ReadPixel, Fill, DrawTo, Letters, SetRast, ScrollRaster, Put, Blit, Clip, Unclip, BeginRefresh, EndRefresh, Scroll, SetTitle, TakeMessage}
 use Rattle.lw_calls.specs.declared.group.Hold.{Hold}
 use Rattle.lw_calls.specs.declared.group.Hold.TheVariants.{Slot, All}
 use Rattle.lw_calls.specs.declared.group.Group.{Group}
 use Rattle.lw_grammar.specs.declared.form.Form.TheVariants.{Plain}
-use Rattle.lw_calls.specs.Plan.{Plan, task_calls, task_groups, begins_update}
+use Rattle.lw_calls.specs.Plan.{Plan, task_calls, task_groups, group_calls, begins_update}
 use Rattle.lw_calls.specs.Written.{line_of}
 use Rattle.lw_grammar.specs.declared.verb.BareVerb.TheVariants.{Close as CloseVerb, Front as FrontVerb, Behind as BehindVerb, Activate as ActivateVerb, Unclip as UnclipVerb, Refresh as RefreshVerb, GetMsg as GetMsgVerb}
 use Rattle.lw_grammar.specs.declared.verb.NumberVerb.TheVariants.{APen as APenVerb, BPen as BPenVerb, Mode as ModeVerb, Mask as MaskVerb, SetRast as SetRastVerb, Clip as ClipVerb, Hook as HookVerb}
 use Rattle.lw_grammar.specs.declared.verb.PairVerb.TheVariants.{Move as MoveVerb, Size as SizeVerb, At as AtVerb, Write as WriteVerb, Read as ReadVerb, Draw as DrawVerb, Scroll as ScrollVerb}
 use Rattle.lw_grammar.specs.declared.verb.TextVerb.TheVariants.{Text as TextOf, Title as TitleVerb}
-use Rattle.lw_grammar.specs.Statements.{NewLayer, Act, BareAct, NumberAct, PairAct, TextAct, RegRectAct, RegPairAct, RegClearAct, CreateAct, OpenAct, InFrontAct, BoxAct, WhichAct, FillAct, ScrollRasterAct, PutAct, BlitAct, EndRefreshAct, Statement, LayersLine, ScreenLine, GlyphLine, BitmapLine, RowLine, TaskLine, EndLine, CallLine, LockLine, UnlockLine, HoldLine, ReleaseLine, four}
+use Rattle.lw_grammar.specs.Statements.{NewLayer, Act, BareAct, NumberAct, PairAct, TextAct, RegRectAct, RegPairAct, RegClearAct, CreateAct, OpenAct, InFrontAct, BoxAct, WhichAct, FillAct, ScrollRasterAct, PutAct, BlitAct, EndRefreshAct, Statement, LayersLine, ScreenLine, GlyphLine, BitmapLine, RowLine, TaskLine, EndLine, CallLine, LockLine, UnlockLine, HoldLine, ReleaseLine, GzzAct, OpenGzz, BoxGzz, FrontGzz, BehindGzz, InFrontGzz, CloseGzz, Line, StatementLine, GzzLine, four}
+use Rattle.lw_gzz.specs.declared.word.GzzWord.{GzzWord}
+use Rattle.lw_gzz.specs.declared.word.GzzWord.TheVariants.{Open as OpenWord, SetBox as BoxWord, Front as FrontWord, Behind as BehindWord, InFrontOf as PlaceWord, Close as CloseWord}
+use Rattle.lw_gzz.specs.Recognition.{word_of}
 use Rattle.lw_grammar.specs.Script.{Setting, ScriptInput, SpellsInput}
-use Rattle.lw_canonical.specs.Spelling.{spelled}
+use Rattle.lw_canonical.specs.Spelling.{written}
 
 -- the elements with their numbers from n on
 abbrev pub enumerated : {A : Type 0} → ℕ → List A → List (ℕ × A)
@@ -97,38 +102,92 @@ are_updating (c ∷ cs) = begins_update c
 abbrev pub is_update : List Call → Group → Bool
 is_update calls g = are_updating (drop g.first calls)
 
--- The lines that begin and end a group: an update has none but its calls.
-abbrev pub opening_lines : List (List ℕ) → Hold → Bool → List Statement
-opening_lines names (Slot s) true = []
-opening_lines names (Slot s) false = LockLine (slice_index_or names s []) ∷ []
-opening_lines names All updating = HoldLine ∷ []
+-- What is done with a pair, by the first of these pairs for which these calls stand for a word.
+abbrev pub or_word : Pair → Option GzzWord → Option (Pair × GzzWord) → Option (Pair × GzzWord)
+or_word p (Some word) others = Some (p, word)
+or_word p None others = others
 
-abbrev pub closing_lines : List (List ℕ) → Hold → Bool → List Statement
+abbrev pub word_among : List Pair → List Call → Option (Pair × GzzWord)
+word_among [] calls = None
+word_among (p ∷ ps) calls = or_word p (word_of p calls) (word_among ps calls)
+
+-- that for which a group of these calls stands, if it holds all layers
+abbrev pub word_held : List Pair → List Call → Hold → Option (Pair × GzzWord)
+word_held pairs calls (Slot s) = None
+word_held pairs calls All = word_among pairs calls
+
+abbrev pub word_for : List Pair → List Call → Group → Option (Pair × GzzWord)
+word_for pairs calls g = word_held pairs (group_calls calls g) g.hold
+
+-- The line of what is done with a pair, where the layers have these names by slot.
+abbrev pub act_of_word : List (List ℕ) → Pair → GzzWord → GzzAct
+act_of_word names p (OpenWord kind place x y w h asks title) =
+    OpenGzz (slice_index_or names p.inner []) kind place (four x y w h) asks title
+act_of_word names p (BoxWord x y w h) = BoxGzz (four x y w h)
+act_of_word names p FrontWord = FrontGzz
+act_of_word names p BehindWord = BehindGzz
+act_of_word names p (PlaceWord other) = InFrontGzz (slice_index_or names other [])
+act_of_word names p CloseWord = CloseGzz
+
+abbrev pub line_of_word : List (List ℕ) → Pair × GzzWord → Line
+line_of_word names w = GzzLine (slice_index_or names w.0.outer []) (act_of_word names w.0 w.1)
+
+-- The lines that begin and end a group: an update has none but its calls, and what is done with a pair has its own line in place
+-- of all.
+abbrev pub opening_lines : List (List ℕ) → Hold → Bool → List Line
+opening_lines names (Slot s) true = []
+opening_lines names (Slot s) false = StatementLine (LockLine (slice_index_or names s [])) ∷ []
+opening_lines names All updating = StatementLine HoldLine ∷ []
+
+abbrev pub closing_lines : List (List ℕ) → Hold → Bool → List Line
 closing_lines names (Slot s) true = []
-closing_lines names (Slot s) false = UnlockLine (slice_index_or names s []) ∷ []
-closing_lines names All updating = ReleaseLine ∷ []
+closing_lines names (Slot s) false = StatementLine (UnlockLine (slice_index_or names s [])) ∷ []
+closing_lines names All updating = StatementLine ReleaseLine ∷ []
+
+abbrev pub or_opening : List (List ℕ) → Option (Pair × GzzWord) → List Line → List Line
+or_opening names (Some w) lines = line_of_word names w ∷ []
+or_opening names None lines = lines
+
+abbrev pub or_closing : Option (Pair × GzzWord) → List Line → List Line
+or_closing (Some w) lines = []
+or_closing None lines = lines
+
+abbrev pub lines_opening : Plan → List Call → Group → List Line
+lines_opening p calls g =
+    or_opening p.slot_names (word_for p.pairs calls g) (opening_lines p.slot_names g.hold (is_update calls g))
+
+abbrev pub lines_closing : Plan → List Call → Group → List Line
+lines_closing p calls g = or_closing (word_for p.pairs calls g) (closing_lines p.slot_names g.hold (is_update calls g))
 
 -- the lines before and after call number n of a task with these calls and groups
-abbrev pub lines_before : List (List ℕ) → List Call → List Group → ℕ → List Statement
-lines_before names calls groups n =
-    flat_map (λ g. if g.first == n then opening_lines names g.hold (is_update calls g) else []) groups
+abbrev pub lines_before : Plan → List Call → List Group → ℕ → List Line
+lines_before p calls groups n = flat_map (λ g. if g.first == n then lines_opening p calls g else []) groups
 
-abbrev pub lines_after : List (List ℕ) → List Call → List Group → ℕ → List Statement
-lines_after names calls groups n =
-    flat_map (λ g. if g.last == n then closing_lines names g.hold (is_update calls g) else []) groups
+abbrev pub lines_after : Plan → List Call → List Group → ℕ → List Line
+lines_after p calls groups n = flat_map (λ g. if g.last == n then lines_closing p calls g else []) groups
+
+-- call number n is of a group that stands for what is done with a pair
+abbrev pub is_of_word : Plan → List Call → List Group → ℕ → Bool
+is_of_word p calls groups n =
+    list_any (λ g. (nat_le g.first n && nat_le n g.last) && is_some (word_for p.pairs calls g)) groups
+
+-- its own line, unless that is so
+abbrev pub lines_at : Plan → List Call → List Group → ℕ → Call → List Line
+lines_at p calls groups n c =
+    if is_of_word p calls groups n then [] else StatementLine (line_of_call p.slot_names p.bitmap_names c) ∷ []
 
 -- the lines of those of the calls that are left from number n on, with those of groups
-abbrev pub lines_from : Plan → List Call → List Group → ℕ → List Call → List Statement
+abbrev pub lines_from : Plan → List Call → List Group → ℕ → List Call → List Line
 lines_from p calls groups n [] = []
 lines_from p calls groups n (c ∷ cs) =
-    lines_before p.slot_names calls groups n ++ line_of_call p.slot_names p.bitmap_names c ∷
-    lines_after p.slot_names calls groups n ++ lines_from p calls groups (n + 1) cs
+    lines_before p calls groups n ++ lines_at p calls groups n c ++ lines_after p calls groups n
+    ++ lines_from p calls groups (n + 1) cs
 
 -- the lines of a task
-abbrev pub lines_of_task : Plan → ℕ → List Statement
+abbrev pub lines_of_task : Plan → ℕ → List Line
 lines_of_task p t =
-    TaskLine (slice_index_or p.task_names t []) ∷
-    lines_from p (task_calls p t) (task_groups p t) 0 (task_calls p t) ++ EndLine ∷ []
+    StatementLine (TaskLine (slice_index_or p.task_names t [])) ∷
+    lines_from p (task_calls p t) (task_groups p t) 0 (task_calls p t) ++ StatementLine EndLine ∷ []
 
 -- the line of a code's glyph, where some bit of it is set
 abbrev pub lines_of_glyph : ℕ → List ℕ → List Statement
@@ -144,17 +203,21 @@ lines_of_bitmap name b =
 abbrev pub lines_of_version : ℕ → List Statement
 lines_of_version version = if version == 2 then LayersLine ∷ [] else []
 
--- the lines of a plan
-abbrev pub lines_of_plan : Plan → List Statement
-lines_of_plan p =
+-- the lines of a plan above its tasks
+abbrev pub first_lines_of_plan : Plan → List Statement
+first_lines_of_plan p =
     lines_of_version p.sizes.version ++ ScreenLine (pos p.sizes.width) (pos p.sizes.height) (pos p.sizes.depth) ∷
     flat_map (λ i. lines_of_glyph (32 + i) (slice_index_or p.assets.glyphs i [])) (range_with_len 0 95)
     ++ flat_map (λ b. lines_of_bitmap (slice_index_or p.bitmap_names b.0 []) b.1) (enumerated 0 p.assets.bitmaps)
-    ++ flat_map (lines_of_task p) (range_with_len 0 p.sizes.tasks)
+
+-- the lines of a plan
+abbrev pub lines_of_plan : Plan → List Line
+lines_of_plan p =
+    map (λ f. StatementLine f) (first_lines_of_plan p) ++ flat_map (lines_of_task p) (range_with_len 0 p.sizes.tasks)
 
 -- The canonical text of a plan: its lines, each with a line feed after it.
 unfoldable pub canonical_text : Plan → List ℕ
-canonical_text p = flat_map (λ statement. line_of (spelled statement)) (lines_of_plan p)
+canonical_text p = flat_map (λ line. line_of (written line)) (lines_of_plan p)
 
 -- What a script alone gives of a plan's canonical text, where so many hooks are handed in as the plan has.
 abbrev pub canonical_input : Plan → ScriptInput

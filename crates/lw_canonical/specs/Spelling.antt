@@ -1,15 +1,16 @@
--- The one spelling of each statement of a script's lines: its words with single spaces between them.
+-- The one spelling of each line of a script's lines: its words with single spaces between them.
 use Rattle.std.specs.Prelude.{ℕ, ◌/◌, ◌%◌, ◌==◌, Bool, true, false, not, if◌then◌else◌, List, [], ◌∷◌, ◌++◌, map, ℤ, Option, Some, None, codes, slice_index_or}
 use Rattle.std.specs.List.{flat_map}
 use Rattle.std.specs.Fmt.{signed_decimal}
 use Rattle.lw_region.specs.Rectangle.{Rectangle}
+use Rattle.lw_area.specs.declared.point.Point.{Point}
 use Rattle.lw_calls.specs.declared.make.Kind.{Kind}
 use Rattle.lw_calls.specs.declared.make.Kind.TheVariants.{Simple, Smart, SuperBitmap}
 use Rattle.lw_calls.specs.declared.make.Place.{Place}
 use Rattle.lw_calls.specs.declared.make.Place.TheVariants.{Front, Behind}
 use Rattle.lw_grammar.specs.Tokens.{space, quote}
 use Rattle.lw_grammar.specs.Verbs.{bare_word, number_word, pair_word, text_verb_word, rect_word, region_word}
-use Rattle.lw_grammar.specs.Statements.{NewLayer, Act, BareAct, NumberAct, PairAct, TextAct, RegRectAct, RegPairAct, RegClearAct, CreateAct, OpenAct, InFrontAct, BoxAct, WhichAct, FillAct, ScrollRasterAct, PutAct, BlitAct, EndRefreshAct, Statement, LayersLine, ScreenLine, GlyphLine, BitmapLine, RowLine, PatternLine, TaskLine, EndLine, OrderLine, NumbersLine, ReportLine, CallLine, LockLine, UnlockLine, HoldLine, ReleaseLine}
+use Rattle.lw_grammar.specs.Statements.{NewLayer, Act, BareAct, NumberAct, PairAct, TextAct, RegRectAct, RegPairAct, RegClearAct, CreateAct, OpenAct, InFrontAct, BoxAct, WhichAct, FillAct, ScrollRasterAct, PutAct, BlitAct, EndRefreshAct, Statement, LayersLine, ScreenLine, GlyphLine, BitmapLine, RowLine, PatternLine, TaskLine, EndLine, OrderLine, NumbersLine, ReportLine, CallLine, LockLine, UnlockLine, HoldLine, ReleaseLine, NameSeen, PairMade, GzzAct, OpenGzz, BoxGzz, FrontGzz, BehindGzz, InFrontGzz, CloseGzz, Line, StatementLine, AreaLine, GzzLine}
 use Rattle.lw_calls.specs.Written.{hex_byte}
 
 -- words with single spaces between them
@@ -115,7 +116,7 @@ call_words layers (EndRefreshAct full) = codes "endrefresh" ∷ layers ++ (if fu
 abbrev pub pattern_digits : ℕ → List ℕ
 pattern_digits word = hex_word (word / 256 ∷ word % 256 ∷ [])
 
--- the words of a line
+-- the words of a statement's line; there is none for two of them
 abbrev pub words_of : Statement → List (List ℕ)
 words_of LayersLine = codes "layers" ∷ codes "2" ∷ []
 words_of (ScreenLine w h d) = codes "screen" ∷ signed_decimal w ∷ signed_decimal h ∷ signed_decimal d ∷ []
@@ -133,7 +134,36 @@ words_of (LockLine name) = codes "lock" ∷ name ∷ []
 words_of (UnlockLine name) = codes "unlock" ∷ name ∷ []
 words_of HoldLine = codes "hold" ∷ []
 words_of ReleaseLine = codes "release" ∷ []
+words_of (NameSeen name) = []
+words_of (PairMade outer inner) = []
 
--- the bytes of a line without its line feed
+-- the bytes of its line without the line feed
 abbrev pub spelled : Statement → List ℕ
 spelled statement = joined (words_of statement)
+
+-- the words of an area
+abbrev pub area_words : List ℕ → Option (List ℕ) → List Point → List (List ℕ)
+area_words layer None points =
+    codes "area" ∷ layer ∷ flat_map (λ (p : Point). signed_decimal p.x ∷ signed_decimal p.y ∷ []) points
+area_words layer (Some pattern) points =
+    codes "areapat" ∷ layer ∷ pattern ∷ flat_map (λ (p : Point). signed_decimal p.x ∷ signed_decimal p.y ∷ []) points
+
+-- the words of what is done with a window of two layers
+abbrev pub gzz_words : List ℕ → GzzAct → List (List ℕ)
+gzz_words g (OpenGzz inner kind place r classes title) =
+    codes "gopen" ∷ g ∷ inner ∷ kind_word kind ∷ place_word place ∷ four_words r ++ ask_words classes ++ text_word title ∷ []
+gzz_words g (BoxGzz r) = codes "gbox" ∷ g ∷ four_words r
+gzz_words g FrontGzz = codes "gfront" ∷ g ∷ []
+gzz_words g BehindGzz = codes "gbehind" ∷ g ∷ []
+gzz_words g (InFrontGzz other) = codes "ginfront" ∷ g ∷ other ∷ []
+gzz_words g CloseGzz = codes "gclose" ∷ g ∷ []
+
+-- the words of a line
+abbrev pub line_words : Line → List (List ℕ)
+line_words (StatementLine f) = words_of f
+line_words (AreaLine layer pattern points) = area_words layer pattern points
+line_words (GzzLine g act) = gzz_words g act
+
+-- the bytes of a line without its line feed
+abbrev pub written : Line → List ℕ
+written line = joined (line_words line)

@@ -1,8 +1,8 @@
 -- The lines of a demo's script are good where they stand.
-use Rattle.std.proofs.Common.{◌≡◌, ℕ, ◌+◌, ◌<◌, ◌≤◌, true, false, not, ◌&&◌, nat_le, List, [], ◌∷◌, length, map, Some, None, Ok, refl, ap, ◌∙◌, arith}
-use Rattle.std.specs.List.{list_all}
+use Rattle.std.proofs.Common.{◌≡◌, ℕ, ◌+◌, ◌<◌, ◌≤◌, Bool, true, false, not, ◌&&◌, ◌||◌, nat_le, List, [], ◌∷◌, length, map, Some, None, Ok, refl, ap, ap₂, ◌∙◌, arith}
+use Rattle.std.specs.List.{list_any, list_all}
 use Rattle.lw_grammar.specs.declared.form.Form.TheVariants.{Plain}
-use Rattle.lw_grammar.specs.declared.reason.Reason.TheVariants.{Range, NoName, DoubleName, Group as GroupReason, TooMany, NoHook, HookUsed, Padding}
+use Rattle.lw_grammar.specs.declared.reason.Reason.TheVariants.{Range, NoName, DoubleName, Gzz as GzzReason, Group as GroupReason, TooMany, NoHook, HookUsed, Padding}
 use Rattle.lw_calls.specs.declared.call.Call.{Call}
 use Rattle.lw_calls.specs.declared.group.Group.{Group}
 use Rattle.lw_calls.specs.Limits.{limits_of, task_limit}
@@ -11,8 +11,8 @@ use Rattle.lw_grammar.specs.Demands.{◌>>=◌, demand}
 use Rattle.lw_grammar.specs.Tokens.{token_of}
 use Rattle.lw_grammar.specs.Verbs.{verb_word, verb_of}
 use Rattle.lw_grammar.specs.Statements.{Act, Statement, CallLine, StatementLine, line_by, is_act_in_range, is_line_in_range}
-use Rattle.lw_grammar.specs.Told.{Section, CallsAreDue, Told, nothing_told, and_name, place_among, onto_last, spelled_call, hook_on, told_with}
-use Rattle.lw_grammar.specs.Script.{is_skipped, is_known_in, belongs_in, lacks_name, gives_again, group_has_calls, group_allows, fits_group, are_few, is_no_hook, is_used, has_padding, statement_tested}
+use Rattle.lw_grammar.specs.Told.{Section, CallsAreDue, NamedPair, Told, nothing_told, and_name, place_among, onto_last, spelled_call, hook_on, told_with}
+use Rattle.lw_grammar.specs.Script.{is_skipped, is_known_in, belongs_in, lacks_name, gives_again, group_has_calls, group_allows, fits_group, are_few, is_no_hook, is_used, has_padding, is_inner, is_paired, is_arranging, is_activating, parts_pair, line_tested}
 use Rattle.lw_canonical.specs.Spelling.{words_of, spelled}
 use Rattle.lw_canonical.proofs.PlainWords.{is_plain}
 use Rattle.lw_canonical.proofs.ReadsForward.{line_reads}
@@ -26,17 +26,37 @@ abbrev pub in_demo : Section → List (List ℕ) → List (List ℕ) → ℕ →
 in_demo section tasks names so_far calls groups =
     record nothing_told { version = 1; section = section; width = 640; height = 256; depth = 2; tasks = tasks; names = names; so_far = so_far; calls = calls; groups = groups }
 
--- A statement in range that gives nothing again, where no group is open, none is padded and no hook is named, passes its tests.
-pub tests_pass : (t : Told) (f : Statement) → is_line_in_range t.version f ≡ true → lacks_name t.bitmap_names f ≡ false → gives_again t f ≡ false → fits_group t.group (group_has_calls t) f ≡ true → are_few (limits_of t.version) (told_with f t) ≡ true → hook_on f ≡ None → has_padding t.row_width f ≡ false → statement_tested alone t f ≡ Ok tt
-tests_pass t f range bitmaps again group few hook padding =
+-- no line parts a window of two layers where there is none
+none_named : (layers : List (List ℕ)) → (list_any (is_paired []) layers ≡ false) × (list_any (is_inner []) layers ≡ false)
+none_named [] = (refl, refl)
+none_named (l ∷ ls) = none_named ls
+
+neither : (a b : Bool) → ((a && false) || (b && false)) ≡ false
+neither true true = refl
+neither true false = refl
+neither false true = refl
+neither false false = refl
+
+none_parted : (f : Statement) → parts_pair [] f ≡ false
+none_parted (CallLine layers act) =
+    let none = none_named layers in
+    ap₂ (λ (a b : Bool). (is_arranging act && a) || (is_activating act && b)) none.0 none.1 ∙ neither (is_arranging act) (is_activating act)
+none_parted f = refl
+
+-- A statement in range that gives nothing again, where there are no windows of two layers, no group is open, none is padded and no
+-- hook is named, passes its tests.
+pub tests_pass : (t : Told) (f : Statement) → t.pairs ≡ [] → is_line_in_range t.version f ≡ true → lacks_name t.bitmap_names f ≡ false → gives_again t f ≡ false → fits_group t.group (group_has_calls t) f ≡ true → are_few (limits_of t.version) (told_with f t) ≡ true → hook_on f ≡ None → has_padding t.row_width f ≡ false → line_tested alone t (StatementLine f) ≡ Ok tt
+tests_pass t f pairs range bitmaps again group few hook padding =
+    let apart : parts_pair t.pairs f ≡ false = ap (λ (ps : List NamedPair). parts_pair ps f) pairs ∙ none_parted f in
     λ i. demand (range i) Range
     >>= (λ _. demand (not (bitmaps i)) NoName
     >>= (λ _. demand (not (again i)) DoubleName
+    >>= (λ _. demand (not (apart i)) GzzReason
     >>= (λ _. demand (group i) GroupReason
     >>= (λ _. demand (few i) TooMany
     >>= (λ _. demand (not (is_no_hook 0 (hook i))) NoHook
     >>= (λ _. demand (not (is_used t.used (hook i))) HookUsed
-    >>= (λ _. demand (not (padding i)) Padding)))))))
+    >>= (λ _. demand (not (padding i)) Padding))))))))
 
 -- There are few of everything.
 pub few_in_demo : (section : Section) (tasks names : List (List ℕ)) (n : ℕ) (calls : List (List Call)) (groups : List (List Group)) → length tasks ≤ 16 → length names ≤ (limits_of 1).names → n ≤ (limits_of 1).calls → are_few (limits_of 1) (in_demo section tasks names n calls groups) ≡ true
@@ -71,5 +91,5 @@ call_more tasks old new l slot n calls groups act c few more named r is reached 
     let call : spelled_call [] act (place_among (and_name old l) l ∷ []) ≡ c = ap (λ s. spelled_call [] act (s ∷ [])) place ∙ is in
     let tells : told_with f t ≡ u = r.tells tasks old n calls groups ∙ (λ i. in_demo CallsAreDue tasks (named.becomes i) (n + 1) (onto_last (call i) calls) groups) in
     let few_then : are_few (limits_of 1) (told_with f t) ≡ true = ap (are_few (limits_of 1)) tells ∙ few_in_demo CallsAreDue tasks new (n + 1) (onto_last c calls) groups few named.few (omega (arith, more)) in
-    let tested = tests_pass t f r.range r.bitmaps refl r.group few_then r.hook refl in
+    let tested = tests_pass t f refl r.range r.bitmaps refl r.group few_then r.hook refl in
     line_more t u f reached (line_reads alone t f r.verb r.ws r.words r.plain r.few r.known r.spoken r.made refl refl r.belongs tested) r.stands refl tells

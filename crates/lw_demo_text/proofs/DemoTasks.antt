@@ -132,14 +132,14 @@ begun section k n calls groups low numbers due belongs reached =
     let f = TaskLine (task_name k) in
     let new = new_task k low in
     let few = few_in_demo CallsAreDue (tasks_named (suc k)) (layers_named k) 0 (calls ++ [] ∷ []) (groups ++ [] ∷ []) (let m = many_tasks (suc k) in omega (arith, m, low)) (let m = many_layers k in omega (arith, m, low)) (omega arith) in
-    line_more t u f reached (line_reads alone t f (Part TaskVerb) (task_name k ∷ []) refl (and_from (is_plain (task_name k)) true new.plain refl) (omega arith) refl refl (λ i. line_by (Part TaskVerb) (new.name i ∷ [])) refl numbers belongs (tests_pass t f refl refl new.new refl few refl refl)) refl due refl
+    line_more t u f reached (line_reads alone t f (Part TaskVerb) (task_name k ∷ []) refl (and_from (is_plain (task_name k)) true new.plain refl) (omega arith) refl refl (λ i. line_by (Part TaskVerb) (new.name i ∷ [])) refl numbers belongs (tests_pass t f refl refl refl new.new refl few refl refl)) refl due refl
 
 ended : (k n : ℕ) (calls : List (List Call)) (groups : List (List Group)) → k ≤ 16 → n ≤ 4096 → IsReached (in_demo CallsAreDue (tasks_named k) (layers_named k) n calls groups) → IsReached (in_demo TasksAreDue (tasks_named k) (layers_named k) n calls groups)
 unfolding verb_of
 ended k n calls groups low long reached =
     let t = in_demo CallsAreDue (tasks_named k) (layers_named k) n calls groups in
     let few = few_in_demo TasksAreDue (tasks_named k) (layers_named k) n calls groups (let m = many_tasks k in omega (arith, m, low)) (let m = many_layers k in omega (arith, m, low)) long in
-    line_more t (in_demo TasksAreDue (tasks_named k) (layers_named k) n calls groups) EndLine reached (line_reads alone t EndLine (Part EndVerb) [] refl refl (omega arith) refl refl refl refl refl refl (tests_pass t EndLine refl refl refl refl few refl refl)) refl refl refl
+    line_more t (in_demo TasksAreDue (tasks_named k) (layers_named k) n calls groups) EndLine reached (line_reads alone t EndLine (Part EndVerb) [] refl refl (omega arith) refl refl refl refl refl refl (tests_pass t EndLine refl refl refl refl refl few refl refl)) refl refl refl
 
 -- What the lines of so many tasks of a demo tell.
 module _ (number tasks : ℕ) (few : tasks ≤ 16) where
@@ -184,7 +184,7 @@ module _ (number tasks : ℕ) (few : tasks ≤ 16) where
   unfolding digits within verb_of
   screen_read =
       let f = ScreenLine (pos 640) (pos 256) (pos 2) in
-      line_more nothing_told (told_by zero) f nothing_reached (line_reads alone nothing_told f (Part ScreenVerb) (signed_decimal (pos 640) ∷ signed_decimal (pos 256) ∷ signed_decimal (pos 2) ∷ []) refl refl (omega arith) refl refl refl refl refl refl (tests_pass nothing_told f refl refl refl refl refl refl refl)) refl refl refl
+      line_more nothing_told (told_by zero) f nothing_reached (line_reads alone nothing_told f (Part ScreenVerb) (signed_decimal (pos 640) ∷ signed_decimal (pos 256) ∷ signed_decimal (pos 2) ∷ []) refl refl (omega arith) refl refl refl refl refl refl (tests_pass nothing_told f refl refl refl refl refl refl refl refl)) refl refl refl
 
 -- what tasks have, as the plan has it
 of_all : {A : Type 0} (f : ℕ → A) (n : ℕ) → of_tasks f n ≡ map f (range_with_len 0 n)

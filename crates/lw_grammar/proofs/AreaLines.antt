@@ -7,7 +7,7 @@ use Rattle.lw_area.specs.Polygons.{is_in_range}
 use Rattle.lw_area.specs.Areas.{area_rectangles}
 use Rattle.lw_calls.specs.declared.limits.Limits.{Limits}
 use Rattle.lw_calls.specs.Limits.{limits_of, rect_fits}
-use Rattle.lw_grammar.specs.Statements.{FillAct, Statement, CallLine, LockLine, UnlockLine, AreaLine}
+use Rattle.lw_grammar.specs.Statements.{FillAct, Statement, CallLine, LockLine, UnlockLine, NameSeen, AreaLine}
 use Rattle.lw_grammar.specs.Told.{OpenGroup, Locked, Updating, Held, Told, area_words, fill_lines, area_lines, stands_for, told_with, told, told_all}
 use Rattle.lw_grammar.specs.Script.{Setting, are_calls_due, lacks_pattern, group_allows, allows_area, is_lock_on, are_few, area_tested, added}
 use Rattle.lw_grammar.specs.GoodLines.{IsGoodLine, AreGoodLines}
@@ -146,6 +146,13 @@ module _ (s : Setting) (layer : List ℕ) where
       record { range = refl; named = refl; new = refl; group = ends; few = counted_few _ _ few; hook = refl; unused = refl; padding = refl } in
       record { here = (rows, calls, tt, refl); tested = tests_pass s new (UnlockLine layer) tested }
 
+  -- so is a name alone
+  seen_good : (above : List Statement) → ((told above).rows_due == 0) ≡ true → are_calls_due (told above).section ≡ true → AreCounted (limits_of (told above).version) (told (NameSeen layer ∷ above)) → IsGoodLine s above (NameSeen layer)
+  seen_good above rows calls few =
+      let tested : IsStatementTested s above (NameSeen layer) =
+      record { range = refl; named = refl; new = refl; group = refl; few = counted_few _ _ few; hook = refl; unused = refl; padding = refl } in
+      record { here = (rows, calls, tt, refl); tested = tests_pass s above (NameSeen layer) tested }
+
   -- fills that are a group of their own
   group_good : (above : List Statement) (r : Rectangle) (rs : List Rectangle) → ((told above).rows_due == 0) ≡ true → are_calls_due (told above).section ≡ true → (told above).group ≡ None → list_all rect_fits (r ∷ rs) ≡ true → AreCounted (limits_of (told above).version) (told_all (area_lines None layer (r ∷ rs)) (told above)) → AreGoodLines s above → AreGoodLines s (added (area_lines None layer (r ∷ rs)) above)
   group_good above r rs rows calls none fits few g =
@@ -177,7 +184,7 @@ area_good s above layer pattern points h e g =
     go (told above).group refl (area_rectangles points (area_words (told above) pattern)) (area_fits points (area_words (told above) pattern) t.range) t.few t.group
   where
     go : (o : Option OpenGroup) → (told above).group ≡ o → (rs : List Rectangle) → list_all rect_fits rs ≡ true → are_few (limits_of (told above).version) (told_all (area_lines o layer rs) (told above)) ≡ true → allows_area o layer ≡ true → AreGoodLines s (added (area_lines o layer rs) above)
-    go o same [] fits few allowed = g
+    go o same [] fits few allowed = (seen_good s layer above h.rows h.calls (few_counted _ _ few), g)
     go None same (r ∷ rs) fits few allowed = group_good s layer above r rs h.rows h.calls same fits (few_counted _ _ few) g
     go (Some x) same (r ∷ rs) fits few allowed =
         fills_good s layer above (r ∷ rs) (record { rows = h.rows; calls = h.calls; group = ap (λ (k : Option OpenGroup). allows_area k layer) same ∙ allowed }) fits (few_counted _ _ few) g

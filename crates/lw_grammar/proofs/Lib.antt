@@ -5,6 +5,7 @@ pub mod ScriptGroups
 pub mod ScriptSizes
 pub mod AreaRectangles
 pub mod AreaLines
+pub mod GzzLines
 pub mod ScriptOutcome
 pub mod ScriptTasks
 pub mod ScriptRunnable

@@ -1,16 +1,18 @@
 -- What the outcome of bytes tells: the lines of an input were good, and an input is spelled or a first line is bad.
-use Rattle.std.proofs.Common.{◌≡◌, ℕ, ◌==◌, Bool, true, false, cond, min, List, [], ◌∷◌, length, Result, Ok, Err, MatchResult, refl, sym, subst, ◌∙◌, ap, inl, inr, ◌⊎◌}
+use Rattle.std.proofs.Common.{◌≡◌, ℕ, ◌==◌, Bool, true, false, not, cond, min, List, [], ◌∷◌, length, Result, Ok, Err, MatchResult, refl, sym, subst, ◌∙◌, ap, inl, inr, ◌⊎◌}
 use Rattle.std.specs.Result.{IfOk}
 use Rattle.lw_grammar.specs.declared.reason.Reason.{Reason}
-use Rattle.lw_grammar.specs.declared.reason.Reason.TheVariants.{Missing}
+use Rattle.lw_grammar.specs.declared.reason.Reason.TheVariants.{Gzz as GzzReason, Missing}
 use Rattle.lw_grammar.specs.Demands.{◌>>=◌, demand}
 use Rattle.lw_grammar.specs.Lines.{lines}
-use Rattle.lw_grammar.specs.Statements.{Statement, BitmapLine, RowLine, Line, StatementLine, AreaLine}
-use Rattle.lw_grammar.specs.Told.{stands_for, told}
-use Rattle.lw_grammar.specs.Script.{Setting, is_skipped, are_assets_due, is_nothing_due, words_read, line_made, line_tested, line_read, added, statements_with, Reached, at_the_top, with_line, at_number, may_end, end_read, lines_read, ScriptInput, input_from, outcome_of, SpellsInput, IsFirstBadIn, IsDecidedIn}
+use Rattle.lw_grammar.specs.Statements.{Statement, is_line_in_range, BitmapLine, RowLine, Line, StatementLine, AreaLine, GzzLine}
+use Rattle.lw_grammar.specs.Told.{Told, stands_for, told}
+use Rattle.lw_grammar.specs.Script.{Setting, is_skipped, are_assets_due, is_nothing_due, lacks_name, gives_again, words_read, parts_pair, line_made, tested_with, statement_tested, line_tested, line_read, added, statements_with, Reached, at_the_top, with_line, at_number, may_end, end_read, lines_read, ScriptInput, input_from, outcome_of, SpellsInput, IsFirstBadIn, IsDecidedIn}
 use Rattle.lw_grammar.specs.GoodLines.{AreGoodLines}
 use Rattle.lw_grammar.proofs.ScriptStatements.{IsLineHere, line_here}
+use Rattle.lw_grammar.proofs.ScriptSizes.{passed}
 use Rattle.lw_grammar.proofs.AreaLines.{area_good}
+use Rattle.lw_grammar.proofs.GzzLines.{gzz_good}
 use Rattle.std.proofs.lemmas.Bool.{true≢false}
 
 -- What a line that was read is good for: it may stand here, and its tests hold.
@@ -97,13 +99,27 @@ lines_keep P s k p q (line ∷ ls) h e =
     go true next d = end_keeps P s p q h d
     go false next d = at_statements (statements_with s p.statements line) (line_keeps P s k p.statements line h) next d
 
+-- a statement that passes its tests parts no window of two layers, and passes the others
+at_parts : (s : Setting) (t : Told) (f : Statement) (b : Bool) → tested_with s t b f ≡ Ok tt → (b ≡ false) × (statement_tested s t f ≡ Ok tt)
+at_parts s t f false h = (refl, h)
+at_parts s t f true h =
+    let a = passed (is_line_in_range t.version f) _ _ h in
+    let b = passed (not (lacks_name t.bitmap_names f)) _ _ a.1 in
+    let c = passed (not (gives_again t f)) _ _ b.1 in
+    let refused : Err GzzReason ≡ Ok tt = c.1 in
+    absurd (cc)
+
+pub plain_tested : (s : Setting) (above : List Statement) (f : Statement) → line_tested s (told above) (StatementLine f) ≡ Ok tt → (parts_pair (told above).pairs f ≡ false) × (statement_tested s (told above) f ≡ Ok tt)
+plain_tested s above f h = at_parts s (told above) f (parts_pair (told above).pairs f) h
+
 -- the statements that a line stands for are good
 pub lines_more : (s : Setting) → IsKept (AreGoodLines s) s
 lines_more s above line l e g = go l (line_good s above line l e)
   where
     go : (l : Line) → IsRead s above l → AreGoodLines s (added (stands_for (told above) l) above)
-    go (StatementLine f) h = (record { here = h.0; tested = h.1 }, g)
+    go (StatementLine f) h = (record { here = h.0; tested = (plain_tested s above f h.1).1 }, g)
     go (AreaLine layer pattern points) h = area_good s above layer pattern points h.0 h.1 g
+    go (GzzLine name act) h = gzz_good s above name act h.0 h.1 g
 
 -- a further line is good, or skipped
 pub with_good : (s : Setting) (above : List Statement) (line : List ℕ) → AreGoodLines s above → IfOk (statements_with s above line) (AreGoodLines s)

@@ -17,12 +17,14 @@ use Rattle.lw_grammar.specs.declared.verb.BareVerb.{BareVerb}
 use Rattle.lw_grammar.specs.declared.verb.NumberVerb.{NumberVerb}
 use Rattle.lw_grammar.specs.declared.verb.PairVerb.{PairVerb}
 use Rattle.lw_grammar.specs.declared.verb.TextVerb.{TextVerb}
+use Rattle.lw_grammar.specs.declared.verb.GzzVerb.{GzzVerb}
+use Rattle.lw_grammar.specs.declared.verb.GzzVerb.TheVariants.{Open as OpenVerb, Box as BoxVerb, Front as FrontVerb, Behind as BehindVerb, InFront as InFrontVerb, Close as CloseVerb}
 use Rattle.lw_grammar.specs.declared.verb.Verb.{Verb}
-use Rattle.lw_grammar.specs.declared.verb.Verb.TheVariants.{Part, Bare, Number, Pair, Text, Rect, Region, ClearRegion, Create, Open, InFront, Box, Which, Fill, ScrollRaster, Put, Blit, EndRefresh, Area as AreaVerb, AreaPattern as AreaPatternVerb}
+use Rattle.lw_grammar.specs.declared.verb.Verb.TheVariants.{Part, Bare, Number, Pair, Text, Rect, Region, ClearRegion, Create, Open, InFront, Box, Which, Fill, ScrollRaster, Put, Blit, EndRefresh, Area as AreaVerb, AreaPattern as AreaPatternVerb, Gzz}
 use Rattle.lw_calls.specs.Limits.{is_minterm}
 use Rattle.lw_calls.specs.Kinds.{is_super}
 use Rattle.lw_grammar.specs.Tokens.{Token, NameToken, NumberToken, TextToken, OddToken, is_a_text, is_a_name, is_a_number, without_last, value_of_number, token_of, is_hex, hex_value, hex_bytes, spelled_bytes, bytes_in}
-use Rattle.lw_grammar.specs.Statements.{layers_of, NewLayer, Act, BareAct, NumberAct, PairAct, TextAct, RegRectAct, RegPairAct, RegClearAct, OpenAct, InFrontAct, BoxAct, WhichAct, FillAct, ScrollRasterAct, PutAct, BlitAct, EndRefreshAct, Statement, LayersLine, ScreenLine, GlyphLine, BitmapLine, RowLine, PatternLine, TaskLine, EndLine, OrderLine, NumbersLine, ReportLine, CallLine, LockLine, UnlockLine, HoldLine, ReleaseLine, Line, StatementLine, AreaLine, four, layers_line, screen_line, glyph_of_bytes, glyph_line, bitmap_line, row_line, pattern_words, is_pattern_count, pattern_line, all_numbers, numbers_limit, numbers_line, name_line, alone_line, part_line, layer_line, number_line, pair_line, text_line, rect_line, region_line, clear_line, which_line, infront_line, four_line, scrollraster_line, minterm_of, blit_end, blit_area, put_line, blit_line, endrefresh_line, kind_of, place_of, flag, hook_option, message_class_of, classes_from, asked_classes, ask_option, at_end, create_super, create_kind, titled_line, open_super, open_kind, new_layer_line, area_points, area_line, area_pattern_line, statement_by, line_by}
+use Rattle.lw_grammar.specs.Statements.{layers_of, NewLayer, Act, BareAct, NumberAct, PairAct, TextAct, RegRectAct, RegPairAct, RegClearAct, OpenAct, InFrontAct, BoxAct, WhichAct, FillAct, ScrollRasterAct, PutAct, BlitAct, EndRefreshAct, Statement, LayersLine, ScreenLine, GlyphLine, BitmapLine, RowLine, PatternLine, TaskLine, EndLine, OrderLine, NumbersLine, ReportLine, CallLine, LockLine, UnlockLine, HoldLine, ReleaseLine, Line, StatementLine, AreaLine, four, layers_line, screen_line, glyph_of_bytes, glyph_line, bitmap_line, row_line, pattern_words, is_pattern_count, pattern_line, all_numbers, numbers_limit, numbers_line, name_line, alone_line, part_line, layer_line, number_line, pair_line, text_line, rect_line, region_line, clear_line, which_line, infront_line, last_four, four_line, scrollraster_line, minterm_of, blit_end, blit_area, put_line, blit_line, endrefresh_line, kind_of, place_of, flag, hook_option, message_class_of, classes_from, asked_classes, ask_option, at_end, create_super, create_kind, titled_line, open_super, open_kind, new_layer_line, area_points, area_line, area_pattern_line, statement_by, line_by, GzzAct, OpenGzz, BoxGzz, FrontGzz, BehindGzz, InFrontGzz, CloseGzz, GzzLine, inner_kind_of, titled_gzz, opened_gzz, gopen_line, gbox_line, gzz_alone, ginfront_line, gzz_line}
 use Rattle.lw_grammar.specs.Told.{Section, told}
 use Rattle.lw_grammar.specs.Script.{Setting, is_screen_due, are_assets_due, are_calls_due, are_numbers_due, is_known_in, belongs_in, verb_on, after_verb, verb_read, stated, line_made}
 use Rattle.lw_grammar.specs.GoodLines.{belongs_at, is_known_act, is_known_line, IsNewLayerOf, IsActMade, IsStatementMade, AreBytes, IsStatementHere}
@@ -385,6 +387,7 @@ verb_made form version s Blit ts = blit_made form version s ts
 verb_made form version s EndRefresh ts = endrefresh_made form version s ts
 verb_made form version s AreaVerb ts = tt
 verb_made form version s AreaPatternVerb ts = tt
+verb_made form version s (Gzz verb) ts = tt
 
 -- a statement of a verb is good for this, where its lines stand
 verb_here : (s : Setting) (above : List Statement) → ((told above).rows_due == 0) ≡ true → (stands : Bool) → stands ≡ true → (f : Statement) → IsVerbStatement s.form (told above).version (told above).section stands f → IsStatementHere s above f
@@ -403,10 +406,23 @@ pub record IsAreaHere (above : List Statement) (layer : List ℕ) : Type 0 where
   pub calls : are_calls_due (told above).section ≡ true
   pub name : token_of layer ≡ NameToken layer
 
+-- what the words of a line that is done with a window of two layers are good for, besides its box
+abbrev pub IsGzzMade : GzzAct → Type 0
+IsGzzMade (OpenGzz inner kind place box classes title) = (is_super kind ≡ false) × (classes < 32)
+IsGzzMade act = Unit {0}
+
+-- What such a line was good for: it stands in a task, in version 2.
+pub record IsGzzHere (above : List Statement) (act : GzzAct) : Type 0 where
+  pub rows : ((told above).rows_due == 0) ≡ true
+  pub calls : are_calls_due (told above).section ≡ true
+  pub version : ((told above).version == 2) ≡ true
+  pub made : IsGzzMade act
+
 -- The same of any line.
 abbrev pub IsLineHere : Setting → List Statement → Line → Type 0
 IsLineHere s above (StatementLine f) = IsStatementHere s above f
 IsLineHere s above (AreaLine layer pattern points) = IsAreaHere above layer
+IsLineHere s above (GzzLine g act) = IsGzzHere above act
 
 -- a word that is a name is that name
 name_itself : (w l : List ℕ) → token_of w ≡ NameToken l → token_of l ≡ NameToken l
@@ -449,6 +465,55 @@ module _ (s : Setting) (above : List Statement) (rows : ((told above).rows_due =
       step (NameToken l) h _ = tt
       step _ h u = tt
 
+-- the lines that are done with a window of two layers
+module _ (s : Setting) (above : List Statement) (rows : ((told above).rows_due == 0) ≡ true) (version : ((told above).version == 2) ≡ true) (calls : are_calls_due (told above).section ≡ true) where
+  gzz_so : (g : List ℕ) (act : GzzAct) → IsGzzMade act → IsLineHere s above (GzzLine g act)
+  gzz_so g act h = record { rows = rows; calls = calls; version = version; made = h }
+
+  -- gopen G I KIND PLACE X Y W H ..
+  titled_gzz_here : (g i : List ℕ) (kind : Kind) (place : Place) (box : Rectangle) (classes : ℕ) → is_super kind ≡ false → classes < 32 → (ts : List Token) → IfSome (titled_gzz g i kind place box classes ts) (IsLineHere s above)
+  titled_gzz_here g i kind place box classes k c (TextToken title ∷ []) = gzz_so g (OpenGzz i kind place box classes title) (k, c)
+  titled_gzz_here g i kind place box classes k c _ = tt
+
+  opened_gzz_here : (g i : List ℕ) (place : Place) (box : Rectangle) (ts : List Token) (kind : Kind) → is_super kind ≡ false → IfSome (opened_gzz g i place box ts kind) (IsLineHere s above)
+  opened_gzz_here g i place box ts kind k = titled_gzz_here g i kind place box _ k (ask_small ts) _
+
+  inner_kind_here : (w : List ℕ) (f : Kind → Option Line) → ((kind : Kind) → is_super kind ≡ false → IfSome (f kind) (IsLineHere s above)) → IfSome (option_and_then f (inner_kind_of w)) (IsLineHere s above)
+  inner_kind_here w f h = step (bytes_eq w (codes "simple")) (bytes_eq w (codes "smart"))
+    where
+      step : (a b : Bool) → IfSome (option_and_then f (cond a (Some Simple) (cond b (Some Smart) None))) (IsLineHere s above)
+      step true b = h Simple refl
+      step false true = h Smart refl
+      step false false = tt
+
+  gopen_here : (ts : List Token) → IfSome (gopen_line ts) (IsLineHere s above)
+  gopen_here (NameToken g ∷ NameToken i ∷ NameToken k ∷ NameToken p ∷ NumberToken a x ∷ NumberToken b y ∷ NumberToken c z ∷ NumberToken d w ∷ ts) =
+      then_has (IsLineHere s above) _ (place_of p) (λ place. inner_kind_here k _ (λ kind h. opened_gzz_here g i place (four x y z w) ts kind h))
+  gopen_here _ = tt
+
+  -- gbox G X Y W H
+  gbox_here : (ts : List Token) → IfSome (gbox_line ts) (IsLineHere s above)
+  gbox_here (NameToken g ∷ ts) = map_all (IsLineHere s above) (λ r. GzzLine g (BoxGzz r)) (last_four ts) (λ r. gzz_so g (BoxGzz r) tt)
+  gbox_here _ = tt
+
+  -- gfront G, and its kin
+  gzz_alone_here : (act : GzzAct) → IsGzzMade act → (ts : List Token) → IfSome (gzz_alone act ts) (IsLineHere s above)
+  gzz_alone_here act h (NameToken g ∷ []) = gzz_so g act h
+  gzz_alone_here act h _ = tt
+
+  -- ginfront G M
+  ginfront_here : (ts : List Token) → IfSome (ginfront_line ts) (IsLineHere s above)
+  ginfront_here (NameToken g ∷ NameToken m ∷ []) = gzz_so g (InFrontGzz m) tt
+  ginfront_here _ = tt
+
+  gzz_here : (verb : GzzVerb) (ts : List Token) → IfSome (gzz_line verb ts) (IsLineHere s above)
+  gzz_here OpenVerb ts = gopen_here ts
+  gzz_here BoxVerb ts = gbox_here ts
+  gzz_here FrontVerb ts = gzz_alone_here FrontGzz tt ts
+  gzz_here BehindVerb ts = gzz_alone_here BehindGzz tt ts
+  gzz_here InFrontVerb ts = ginfront_here ts
+  gzz_here CloseVerb ts = gzz_alone_here CloseGzz tt ts
+
 -- the same of each line with a verb
 verb_line_here : (s : Setting) (above : List Statement) → ((told above).rows_due == 0) ≡ true → (ws : List (List ℕ)) → IfOk (verb_read s.form (told above).version (told above).section ws) (IsLineHere s above)
 verb_line_here s above e ws = at_verb (verb_on ws)
@@ -462,6 +527,9 @@ verb_line_here s above e ws = at_verb (verb_on ws)
     at_line : (v : Verb) → (is_known v && belongs v) ≡ true → IfSome (line_by v (map token_of (after_verb ws))) (IsLineHere s above)
     at_line AreaVerb h = area_here s above e (and_parts (is_known AreaVerb) _ h).1 (after_verb ws)
     at_line AreaPatternVerb h = area_pattern_here s above e (and_parts (is_known AreaPatternVerb) _ h).1 (after_verb ws)
+    at_line (Gzz verb) h =
+        let halves = and_parts (is_known (Gzz verb)) _ h in
+        gzz_here s above e halves.0 halves.1 verb (map token_of (after_verb ws))
     at_line v h =
         map_has (IsVerbStatement s.form (told above).version (told above).section (is_known v && belongs v)) (IsLineHere s above) (λ f. StatementLine f) (statement_by v (map token_of (after_verb ws))) (verb_made s.form (told above).version (told above).section v (map token_of (after_verb ws))) (λ f k. verb_here s above e _ h f k)
 

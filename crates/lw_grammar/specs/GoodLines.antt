@@ -7,7 +7,7 @@ use Rattle.lw_calls.specs.Limits.{is_minterm}
 use Rattle.lw_calls.specs.Kinds.{is_super}
 use Rattle.lw_grammar.specs.declared.form.Form.{Form}
 use Rattle.lw_grammar.specs.declared.verb.Verb.TheVariants.{Number}
-use Rattle.lw_grammar.specs.Statements.{NewLayer, Act, NumberAct, CreateAct, OpenAct, PutAct, BlitAct, layers_of, numbers_limit, Statement, LayersLine, ScreenLine, GlyphLine, BitmapLine, RowLine, PatternLine, TaskLine, EndLine, OrderLine, NumbersLine, ReportLine, CallLine, LockLine, UnlockLine, HoldLine, ReleaseLine}
+use Rattle.lw_grammar.specs.Statements.{NewLayer, Act, NumberAct, CreateAct, OpenAct, PutAct, BlitAct, layers_of, numbers_limit, Statement, LayersLine, ScreenLine, GlyphLine, BitmapLine, RowLine, PatternLine, TaskLine, EndLine, OrderLine, NumbersLine, ReportLine, CallLine, LockLine, UnlockLine, HoldLine, ReleaseLine, NameSeen, PairMade}
 use Rattle.lw_grammar.specs.Told.{Section, told}
 use Rattle.lw_grammar.specs.Script.{Setting, is_screen_due, are_assets_due, are_calls_due, are_tasks_due, are_numbers_due, is_ordered, is_audited, is_known_in, statement_tested}
 
@@ -29,6 +29,8 @@ belongs_at form version s (LockLine name) = are_calls_due s
 belongs_at form version s (UnlockLine name) = are_calls_due s
 belongs_at form version s HoldLine = are_calls_due s
 belongs_at form version s ReleaseLine = are_calls_due s
+belongs_at form version s (NameSeen name) = are_calls_due s
+belongs_at form version s (PairMade outer inner) = are_calls_due s
 
 -- Some line has this act, or this statement, where the lines above tell this version.
 abbrev pub is_known_act : ℕ → Act → Bool

@@ -9,11 +9,13 @@ use Rattle.lw_area.specs.Polygons.{is_in_range}
 use Rattle.lw_grammar.specs.declared.form.Form.{Form}
 use Rattle.lw_grammar.specs.declared.form.Form.TheVariants.{Plain, Ordered, Audited}
 use Rattle.lw_grammar.specs.declared.reason.Reason.{Reason}
-use Rattle.lw_grammar.specs.declared.reason.Reason.TheVariants.{LineTooLong, BadByte, UnknownWord, Misplaced, Form as FormReason, Range, NoName, DoubleName, Group, TooMany, NoHook, HookUsed, Padding, Missing}
+use Rattle.lw_grammar.specs.declared.reason.Reason.TheVariants.{LineTooLong, BadByte, UnknownWord, Misplaced, Form as FormReason, Range, NoName, DoubleName, Gzz as GzzReason, Group, TooMany, NoHook, HookUsed, Padding, Missing}
 use Rattle.lw_grammar.specs.declared.verb.Verb.{Verb}
-use Rattle.lw_grammar.specs.declared.verb.Verb.TheVariants.{Part, Number, Area as AreaVerb, AreaPattern as AreaPatternVerb}
+use Rattle.lw_grammar.specs.declared.verb.Verb.TheVariants.{Part, Number, Area as AreaVerb, AreaPattern as AreaPatternVerb, Gzz}
 use Rattle.lw_grammar.specs.declared.verb.PartVerb.TheVariants.{Layers as LayersVerb, Screen as ScreenVerb, Glyph as GlyphVerb, Bitmap as BitmapVerb, Pattern as PatternVerb, Task as TaskVerb, Order as OrderVerb, Report as ReportVerb}
 use Rattle.lw_grammar.specs.declared.verb.NumberVerb.TheVariants.{Hook as HookVerb}
+use Rattle.lw_grammar.specs.declared.verb.BareVerb.TheVariants.{Close as CloseVerb, Front as FrontVerb, Behind as BehindVerb, Activate as ActivateVerb}
+use Rattle.lw_grammar.specs.declared.verb.PairVerb.TheVariants.{Move as MoveVerb, Size as SizeVerb}
 use Rattle.lw_calls.specs.declared.limits.Limits.{Limits}
 use Rattle.lw_calls.specs.Limits.{limits_of, may_replace_hooks, task_limit, bitmap_limit}
 use Rattle.lw_calls.specs.Touches.{slots_of}
@@ -22,8 +24,8 @@ use Rattle.lw_grammar.specs.Lines.{lines}
 use Rattle.lw_grammar.specs.Demands.{◌>>=◌, demand}
 use Rattle.lw_grammar.specs.Tokens.{tokens, token_of}
 use Rattle.lw_grammar.specs.Verbs.{verb_of}
-use Rattle.lw_grammar.specs.Statements.{Act, PutAct, Statement, GlyphLine, BitmapLine, RowLine, PatternLine, TaskLine, EndLine, CallLine, LockLine, UnlockLine, HoldLine, ReleaseLine, Line, StatementLine, AreaLine, row_line, numbers_line, line_by, is_line_in_range}
-use Rattle.lw_grammar.specs.Told.{Section, ScreenIsDue, AssetsAreDue, CallsAreDue, TasksAreDue, NumbersAreDue, NothingIsDue, OpenGroup, Locked, Updating, Held, Told, spelled_call, hook_on, told_with, told, stands_for, told_all, plan_of}
+use Rattle.lw_grammar.specs.Statements.{Act, BareAct, PairAct, CreateAct, OpenAct, InFrontAct, BoxAct, PutAct, GzzAct, OpenGzz, InFrontGzz, Statement, GlyphLine, BitmapLine, RowLine, PatternLine, TaskLine, EndLine, CallLine, LockLine, UnlockLine, HoldLine, ReleaseLine, Line, StatementLine, AreaLine, GzzLine, row_line, numbers_line, line_by, is_line_in_range, is_gzz_in_range}
+use Rattle.lw_grammar.specs.Told.{Section, ScreenIsDue, AssetsAreDue, CallsAreDue, TasksAreDue, NumbersAreDue, NothingIsDue, OpenGroup, Locked, Updating, Held, NamedPair, Told, spelled_call, hook_on, told_with, told, stands_for, told_all, plan_of}
 
 -- What a script is read with: how many hooks are handed in, and what input it stands in.
 pub record Setting : Type 0 where
@@ -84,13 +86,14 @@ is_audited Ordered = false
 is_audited Audited = true
 
 -- Some line begins with this verb, where the lines above tell this version: `layers` is known as a script's first line and in
--- version 2, `hook` where hooks may be replaced, and patterns and areas in version 2.
+-- version 2, `hook` where hooks may be replaced, and patterns, areas and windows of two layers in version 2.
 abbrev pub is_known_in : ℕ → Verb → Bool
 is_known_in version (Part LayersVerb) = not (version == 1)
 is_known_in version (Part PatternVerb) = version == 2
 is_known_in version (Number HookVerb) = may_replace_hooks version
 is_known_in version AreaVerb = version == 2
 is_known_in version AreaPatternVerb = version == 2
+is_known_in version (Gzz verb) = version == 2
 is_known_in version verb = true
 
 -- Lines with this verb belong in this section of this input, where the lines above tell this version.
@@ -132,6 +135,60 @@ gives_again t (BitmapLine name w h d) = list_any (bytes_eq name) t.bitmap_names
 gives_again t (PatternLine name words) = list_any (bytes_eq name) t.pattern_names
 gives_again t (TaskLine name) = list_any (bytes_eq name) t.tasks
 gives_again t statement = false
+
+-- the name is that of the outer layer of a window of two; of the inner one; of either
+abbrev pub is_outer : List NamedPair → List ℕ → Bool
+is_outer pairs name = list_any (λ p. bytes_eq name p.outer) pairs
+
+abbrev pub is_inner : List NamedPair → List ℕ → Bool
+is_inner pairs name = list_any (λ p. bytes_eq name p.inner) pairs
+
+abbrev pub is_paired : List NamedPair → List ℕ → Bool
+is_paired pairs name = is_outer pairs name || is_inner pairs name
+
+-- the call of the act makes, closes, moves or sizes a layer, or puts it elsewhere in the list
+abbrev pub is_arranging : Act → Bool
+is_arranging (BareAct CloseVerb) = true
+is_arranging (BareAct FrontVerb) = true
+is_arranging (BareAct BehindVerb) = true
+is_arranging (PairAct MoveVerb x y) = true
+is_arranging (PairAct SizeVerb x y) = true
+is_arranging (CreateAct layer) = true
+is_arranging (OpenAct layer framed nocare classes title) = true
+is_arranging InFrontAct = true
+is_arranging (BoxAct r) = true
+is_arranging act = false
+
+abbrev pub is_activating : Act → Bool
+is_activating (BareAct ActivateVerb) = true
+is_activating act = false
+
+-- The statement does by itself what could part a window of two layers: it arranges one of the two, or a layer in front of one of
+-- them, or makes the inner one active.
+abbrev pub parts_pair : List NamedPair → Statement → Bool
+parts_pair pairs (CallLine layers act) =
+    (is_arranging act && list_any (is_paired pairs) layers) || (is_activating act && list_any (is_inner pairs) layers)
+parts_pair pairs statement = false
+
+-- the name stands on a line above
+abbrev pub stands_above : Told → List ℕ → Bool
+stands_above t name = list_any (bytes_eq name) t.names || list_any (bytes_eq name) t.seen
+
+-- the line does something with a window of two layers that no line above opened
+abbrev pub lacks_pair : List NamedPair → List ℕ → GzzAct → Bool
+lacks_pair pairs g (OpenGzz inner kind place r classes title) = false
+lacks_pair pairs g act = not (is_outer pairs g)
+
+-- a name of an opened window stands above, or both are one
+abbrev pub names_again : Told → List ℕ → GzzAct → Bool
+names_again t g (OpenGzz inner kind place r classes title) =
+    (stands_above t g || stands_above t inner) || bytes_eq g inner
+names_again t g act = false
+
+-- such a window would come between the two layers of one
+abbrev pub comes_between : List NamedPair → GzzAct → Bool
+comes_between pairs (InFrontGzz m) = is_outer pairs m
+comes_between pairs act = false
 
 -- What the call of an act is, whichever layers and bitmaps it names: one that touches all layers; one that begins an update;
 -- one that ends an update.
@@ -253,17 +310,22 @@ line_made form version section due width ws =
     then ok_or (stated (numbers_line (map token_of ws))) FormReason
     else verb_read form version section ws)
 
--- The first reason for which a line with this statement is bad, if it is bad.
-abbrev pub statement_tested : Setting → Told → Statement → Result (Unit {0}) Reason
-statement_tested s t statement = do
+-- The first reason for which a line with this statement is bad, if it is bad, where it would part a window of two layers, or not.
+abbrev pub tested_with : Setting → Told → Bool → Statement → Result (Unit {0}) Reason
+tested_with s t parts statement = do
   _ ← demand (is_line_in_range t.version statement) Range
   _ ← demand (not (lacks_name t.bitmap_names statement)) NoName
   _ ← demand (not (gives_again t statement)) DoubleName
+  _ ← demand (not parts) GzzReason
   _ ← demand (fits_group t.group (group_has_calls t) statement) Group
   _ ← demand (are_few (limits_of t.version) (told_with statement t)) TooMany
   _ ← demand (not (is_no_hook s.hooks (hook_on statement))) NoHook
   _ ← demand (not (is_used t.used (hook_on statement))) HookUsed
   demand (not (has_padding t.row_width statement)) Padding
+
+-- The same where it isn't asked whether it would part such a window.
+abbrev pub statement_tested : Setting → Told → Statement → Result (Unit {0}) Reason
+statement_tested s t statement = tested_with s t false statement
 
 -- The same of a line with an area on this layer, with this pattern and these points. Of what it stands for no reason is asked,
 -- but that with all of it there are few of everything.
@@ -274,10 +336,22 @@ area_tested t layer pattern points = do
   _ ← demand (allows_area t.group layer) Group
   demand (are_few (limits_of t.version) (told_all (stands_for t (AreaLine layer pattern points)) t)) TooMany
 
+-- The same of a line that does this with the window of two layers of which this is the outer one. It stands in no group. Of the
+-- statements for which it stands no reason is asked, but that with all of them there are few of everything.
+abbrev pub gzz_tested : Told → List ℕ → GzzAct → Result (Unit {0}) Reason
+gzz_tested t g act = do
+  _ ← demand (is_gzz_in_range t.width t.height act) Range
+  _ ← demand (not (lacks_pair t.pairs g act)) NoName
+  _ ← demand (not (names_again t g act)) DoubleName
+  _ ← demand (not (comes_between t.pairs act)) GzzReason
+  _ ← demand (is_none t.group) Group
+  demand (are_few (limits_of t.version) (told_all (stands_for t (GzzLine g act)) t)) TooMany
+
 -- The same of what any line says.
 abbrev pub line_tested : Setting → Told → Line → Result (Unit {0}) Reason
-line_tested s t (StatementLine f) = statement_tested s t f
+line_tested s t (StatementLine f) = tested_with s t (parts_pair t.pairs f) f
 line_tested s t (AreaLine layer pattern points) = area_tested t layer pattern points
+line_tested s t (GzzLine g act) = gzz_tested t g act
 
 -- What a line of these words says, below lines that tell this, or its first reason.
 abbrev pub line_of_words : Setting → Told → List (List ℕ) → Result Line Reason

@@ -1,5 +1,5 @@
 -- The statements of a script's lines.
-use Rattle.std.specs.Prelude.{ℕ, ◌+◌, ◌*◌, ◌%◌, ◌^◌, ◌==◌, Bool, true, false, not, ◌&&◌, ◌||◌, nat_le, if◌then◌else◌, List, [], ◌∷◌, length, ℤ, pos, Option, Some, None, option_map, option_and_then, codes, bytes_eq}
+use Rattle.std.specs.Prelude.{ℕ, ◌+◌, ◌*◌, ◌%◌, ◌^◌, ◌==◌, Bool, true, false, not, ◌&&◌, ◌||◌, nat_le, if◌then◌else◌, List, [], ◌∷◌, length, ℤ, pos, Option, Some, None, option_map, option_and_then, codes, bytes_eq, ◌+ℤ◌, ◌-ℤ◌}
 use Rattle.std.specs.List.{list_all}
 use Rattle.lw_region.specs.Rectangle.{Rectangle, within}
 use Rattle.lw_area.specs.declared.point.Point.{Point}
@@ -18,8 +18,10 @@ use Rattle.lw_grammar.specs.declared.verb.NumberVerb.{NumberVerb}
 use Rattle.lw_grammar.specs.declared.verb.NumberVerb.TheVariants.{APen as APenVerb, BPen as BPenVerb, Mode as ModeVerb, Mask as MaskVerb, SetRast as SetRastVerb, Clip as ClipVerb, Hook as HookVerb}
 use Rattle.lw_grammar.specs.declared.verb.PairVerb.{PairVerb}
 use Rattle.lw_grammar.specs.declared.verb.TextVerb.{TextVerb}
+use Rattle.lw_grammar.specs.declared.verb.GzzVerb.{GzzVerb}
+use Rattle.lw_grammar.specs.declared.verb.GzzVerb.TheVariants.{Open as OpenVerb, Box as BoxVerb, Front as FrontVerb, Behind as BehindVerb, InFront as InFrontVerb, Close as CloseVerb}
 use Rattle.lw_grammar.specs.declared.verb.Verb.{Verb}
-use Rattle.lw_grammar.specs.declared.verb.Verb.TheVariants.{Part, Bare, Number, Pair, Text, Rect, Region, ClearRegion, Create, Open, InFront, Box, Which, Fill, ScrollRaster, Put, Blit, EndRefresh, Area as AreaVerb, AreaPattern as AreaPatternVerb}
+use Rattle.lw_grammar.specs.declared.verb.Verb.TheVariants.{Part, Bare, Number, Pair, Text, Rect, Region, ClearRegion, Create, Open, InFront, Box, Which, Fill, ScrollRaster, Put, Blit, EndRefresh, Area as AreaVerb, AreaPattern as AreaPatternVerb, Gzz}
 use Rattle.lw_calls.specs.Limits.{limits_of, rect_fits, coordinates_fit, is_extent}
 use Rattle.lw_grammar.specs.Tokens.{Token, NameToken, NumberToken, TextToken, bytes_in}
 
@@ -68,8 +70,9 @@ layers_of act = 1
 
 -- What a line says that stands for itself: that the script has version 2; the screen; a glyph by its code and its rows; a
 -- bitmap, whose rows then follow; a row of a bitmap; an area pattern by its name and its words; a task's beginning and its end;
--- the beginnings of an order and of a report; numbers of an order; a call with the layers that it names from left to right; and
--- the beginnings and ends of groups.
+-- the beginnings of an order and of a report; numbers of an order; a call with the layers that it names from left to right; the
+-- beginnings and ends of groups; and two statements for which no line stands alone: that a layer's name stands on a line, and
+-- that two layers, the outer one first, are a window of two layers.
 pub data Statement : Type 0 where
   LayersLine : Statement
   ScreenLine : ℤ → ℤ → ℤ → Statement
@@ -87,12 +90,26 @@ pub data Statement : Type 0 where
   UnlockLine : List ℕ → Statement
   HoldLine : Statement
   ReleaseLine : Statement
+  NameSeen : List ℕ → Statement
+  PairMade : List ℕ → List ℕ → Statement
 
--- What a line says, if it isn't skipped: a statement; or an area on a layer, by the name of its pattern, or with none, and by
--- its points, which stands for several statements.
+-- What a line does with a window of two layers: it opens one, whose inner layer has this name and is of this kind, with a place, a
+-- box, classes of messages and a title; it gives it a box; it puts it in front of all others, behind them, or in front of a
+-- layer; it closes it. A box is a place, a width and a height.
+pub data GzzAct : Type 0 where
+  OpenGzz : List ℕ → Kind → Place → Rectangle → ℕ → List ℕ → GzzAct
+  BoxGzz : Rectangle → GzzAct
+  FrontGzz : GzzAct
+  BehindGzz : GzzAct
+  InFrontGzz : List ℕ → GzzAct
+  CloseGzz : GzzAct
+
+-- What a line says, if it isn't skipped: a statement; or what stands for several statements: an area on a layer, by the name of its
+-- pattern, or with none, and by its points; or what is done with a window of two layers, by the name of its outer one.
 pub data Line : Type 0 where
   StatementLine : Statement → Line
   AreaLine : List ℕ → Option (List ℕ) → List Point → Line
+  GzzLine : List ℕ → GzzAct → Line
 
 -- Four numbers of a line: the bounds of a rectangle; or a place, a width as `max_x` and a height as `max_y`.
 abbrev pub four : ℤ → ℤ → ℤ → ℤ → Rectangle
@@ -442,7 +459,52 @@ abbrev pub area_pattern_line : List Token → Option Line
 area_pattern_line (NameToken l ∷ NameToken n ∷ ts) = option_map (λ ps. AreaLine l (Some n) ps) (area_points ts)
 area_pattern_line _ = None
 
--- The statement of a line with this verb, if the words after it make one. An area is none.
+-- the word is the kind of an inner layer
+abbrev pub inner_kind_of : List ℕ → Option Kind
+inner_kind_of w = if bytes_eq w (codes "simple") then Some Simple else (if bytes_eq w (codes "smart") then Some Smart else None)
+
+-- the title of a window of two layers, where it is the last word
+abbrev pub titled_gzz : List ℕ → List ℕ → Kind → Place → Rectangle → ℕ → List Token → Option Line
+titled_gzz g i kind place box classes (TextToken title ∷ []) = Some (GzzLine g (OpenGzz i kind place box classes title))
+titled_gzz g i kind place box classes _ = None
+
+-- what stands after its four numbers: [ask SET] "TITLE"
+abbrev pub opened_gzz : List ℕ → List ℕ → Place → Rectangle → List Token → Kind → Option Line
+opened_gzz g i place box ts kind = let ask = ask_option ts in titled_gzz g i kind place box ask.0 ask.1
+
+-- gopen G I KIND PLACE X Y W H ..
+abbrev pub gopen_line : List Token → Option Line
+gopen_line (NameToken g ∷ NameToken i ∷ NameToken k ∷ NameToken p ∷ ts) =
+    option_and_then (λ n. option_and_then (λ place. option_and_then (opened_gzz g i place n.0 n.1) (inner_kind_of k)) (place_of p))
+    (four_numbers ts)
+gopen_line _ = None
+
+-- gbox G X Y W H
+abbrev pub gbox_line : List Token → Option Line
+gbox_line (NameToken g ∷ ts) = option_map (λ r. GzzLine g (BoxGzz r)) (last_four ts)
+gbox_line _ = None
+
+-- gfront G, and its kin
+abbrev pub gzz_alone : GzzAct → List Token → Option Line
+gzz_alone act (NameToken g ∷ []) = Some (GzzLine g act)
+gzz_alone act _ = None
+
+-- ginfront G M
+abbrev pub ginfront_line : List Token → Option Line
+ginfront_line (NameToken g ∷ NameToken m ∷ []) = Some (GzzLine g (InFrontGzz m))
+ginfront_line _ = None
+
+-- a line that is done with a window of two layers
+abbrev pub gzz_line : GzzVerb → List Token → Option Line
+gzz_line OpenVerb ts = gopen_line ts
+gzz_line BoxVerb ts = gbox_line ts
+gzz_line FrontVerb ts = gzz_alone FrontGzz ts
+gzz_line BehindVerb ts = gzz_alone BehindGzz ts
+gzz_line InFrontVerb ts = ginfront_line ts
+gzz_line CloseVerb ts = gzz_alone CloseGzz ts
+
+-- The statement of a line with this verb, if the words after it make one. Neither an area nor what is done with a window of two
+-- layers is one.
 abbrev pub statement_by : Verb → List Token → Option Statement
 statement_by (Part verb) ts = part_line verb ts
 statement_by (Bare verb) ts = layer_line verb ts
@@ -464,11 +526,13 @@ statement_by Blit ts = blit_line ts
 statement_by EndRefresh ts = endrefresh_line ts
 statement_by AreaVerb ts = None
 statement_by AreaPatternVerb ts = None
+statement_by (Gzz verb) ts = None
 
 -- What a line with this verb says, if the words after it make a line.
 abbrev pub line_by : Verb → List Token → Option Line
 line_by AreaVerb ts = area_line ts
 line_by AreaPatternVerb ts = area_pattern_line ts
+line_by (Gzz verb) ts = gzz_line verb ts
 line_by verb ts = option_map (λ f. StatementLine f) (statement_by verb ts)
 
 -- a hook's number has 32 bits
@@ -545,3 +609,17 @@ is_line_in_range version (BitmapLine name w h d) = are_sizes_in_range bitmap_siz
 is_line_in_range version (NumbersLine zs) = list_all (λ z. within (pos 0) z (pos 15)) zs
 is_line_in_range version (CallLine layers act) = is_act_in_range act
 is_line_in_range version statement = true
+
+-- A box that a window of two layers may have on a screen of this width and height: its first and last column and row are
+-- coordinates, it has room for a frame, and it is no wider and no higher than the screen.
+abbrev pub is_gzz_box : ℕ → ℕ → Rectangle → Bool
+is_gzz_box width height r =
+    coordinates_fit r.min_x r.min_y
+    && ((within (pos 9) r.max_x (pos width) && within (pos 14) r.max_y (pos height))
+    && coordinates_fit ((r.min_x +ℤ r.max_x) -ℤ pos 1) ((r.min_y +ℤ r.max_y) -ℤ pos 1))
+
+-- the box of what is done with such a window, if it has one, is one that it may have
+abbrev pub is_gzz_in_range : ℕ → ℕ → GzzAct → Bool
+is_gzz_in_range width height (OpenGzz inner kind place box classes title) = is_gzz_box width height box
+is_gzz_in_range width height (BoxGzz box) = is_gzz_box width height box
+is_gzz_in_range width height act = true

@@ -1,13 +1,15 @@
 -- What the lines above a line of a script tell: one record, and what each statement adds to
 -- it. Skipped lines and those after a line `report` tell nothing. The lines may be taken to be good, since only a script's
 -- first bad line counts.
-use Rattle.std.specs.Prelude.{ℕ, ◌+◌, ◌-◌, ◌*◌, ◌==◌, Bool, false, ◌||◌, if◌then◌else◌, List, [], ◌∷◌, ◌++◌, map, length, ℤ, pos, ◌+ℤ◌, ◌-ℤ◌, unsigned_abs, Option, Some, None, option_map, slice_index, bytes_eq, replicate}
+use Rattle.std.specs.Prelude.{ℕ, ◌+◌, ◌-◌, ◌*◌, ◌==◌, Bool, true, false, ◌||◌, if◌then◌else◌, List, [], ◌∷◌, ◌++◌, map, length, ℤ, pos, ◌+ℤ◌, ◌-ℤ◌, unsigned_abs, Option, Some, None, option_map, slice_index, bytes_eq, replicate}
 use Rattle.std.specs.List.{list_any, position_or_len, range_with_len, slice_index_or}
 use Rattle.lw_region.specs.Rectangle.{Rectangle}
 use Rattle.lw_area.specs.Areas.{area_rectangles}
 use Rattle.lw_planes.specs.Bitmap.{Bitmap}
 use Rattle.lw_planes.specs.Storage.{stored}
+use Rattle.lw_calls.specs.declared.make.Kind.TheVariants.{Smart}
 use Rattle.lw_calls.specs.declared.make.Make.{Make}
+use Rattle.lw_calls.specs.declared.pair.Pair.{Pair}
 use Rattle.lw_calls.specs.declared.call.Call.{Call}
 use Rattle.lw_calls.specs.declared.call.Call.TheVariants.{RegRect, RegPair, RegClear, Create, OpenWindow, Close, ToFront, ToBack, InFrontOf, MoveBy, SizeBy, SetBox, Activate, SetHook, Which, SetA, SetB, SetMode, SetMask, At, WritePixel, ReadPixel, Fill, DrawTo, Letters, SetRast, ScrollRaster, Put, Blit, Clip, Unclip, BeginRefresh, EndRefresh, Scroll, SetTitle, TakeMessage}
 use Rattle.lw_calls.specs.declared.group.Hold.{Hold}
@@ -23,7 +25,7 @@ use Rattle.lw_grammar.specs.declared.verb.PairVerb.{PairVerb}
 use Rattle.lw_grammar.specs.declared.verb.PairVerb.TheVariants.{Move as MoveVerb, Size as SizeVerb, At as AtVerb, Write as WriteVerb, Read as ReadVerb, Draw as DrawVerb, Scroll as ScrollVerb}
 use Rattle.lw_grammar.specs.declared.verb.TextVerb.{TextVerb}
 use Rattle.lw_grammar.specs.declared.verb.TextVerb.TheVariants.{Text as TextOf, Title as TitleVerb}
-use Rattle.lw_grammar.specs.Statements.{NewLayer, Act, BareAct, NumberAct, PairAct, TextAct, RegRectAct, RegPairAct, RegClearAct, CreateAct, OpenAct, InFrontAct, BoxAct, WhichAct, FillAct, ScrollRasterAct, PutAct, BlitAct, EndRefreshAct, Statement, LayersLine, ScreenLine, GlyphLine, BitmapLine, RowLine, PatternLine, TaskLine, EndLine, OrderLine, NumbersLine, ReportLine, CallLine, LockLine, UnlockLine, HoldLine, ReleaseLine, Line, StatementLine, AreaLine, version_at_screen}
+use Rattle.lw_grammar.specs.Statements.{NewLayer, Act, BareAct, NumberAct, PairAct, TextAct, RegRectAct, RegPairAct, RegClearAct, CreateAct, OpenAct, InFrontAct, BoxAct, WhichAct, FillAct, ScrollRasterAct, PutAct, BlitAct, EndRefreshAct, Statement, LayersLine, ScreenLine, GlyphLine, BitmapLine, RowLine, PatternLine, TaskLine, EndLine, OrderLine, NumbersLine, ReportLine, CallLine, LockLine, UnlockLine, HoldLine, ReleaseLine, NameSeen, PairMade, GzzAct, OpenGzz, BoxGzz, FrontGzz, BehindGzz, InFrontGzz, CloseGzz, Line, StatementLine, AreaLine, GzzLine, four, new_without_bitmap, version_at_screen}
 
 -- The parts of a script, by what is due in them: the screen, before which the version may stand; glyphs, bitmaps, patterns and
 -- the first task; in a task calls, groups or its end; after a task a further one, an order or a report; numbers of an order;
@@ -42,12 +44,18 @@ pub data OpenGroup : Type 0 where
   Updating : List ℕ → OpenGroup
   Held : OpenGroup
 
+-- A window of two layers, by the names of the outer and of the inner one.
+pub record NamedPair : Type 0 where
+  pub outer : List ℕ
+  pub inner : List ℕ
+
 -- What lines tell: the script's version, or 0 where there is no line yet; the section in which the next line stands; the
 -- screen's sizes; which codes have a glyph line, and the rows of each code's glyph; the bitmaps' names; the bitmaps, where
 -- further rows stand after those of the nearest one; the width of the nearest one, and how many of its rows are due; the
 -- patterns' names, and the words of each; the names of the tasks, and those of the layers in the order of their first
--- appearance; how many lines ask for a super-bitmap layer; which hooks are named; the group that is open, and how many calls its
--- task had when it began; how many calls the nearest task has; each task's calls and groups; and the order.
+-- appearance; the layers' names on lines of areas without a pixel, which have no slot by these; the windows of two layers; how
+-- many lines ask for a super-bitmap layer; which hooks are named; the group that is open, and how many calls its task had when it
+-- began; how many calls the nearest task has; each task's calls and groups; and the order.
 pub record Told : Type 0 where
   pub version : ℕ
   pub section : Section
@@ -64,6 +72,8 @@ pub record Told : Type 0 where
   pub patterns : List (List ℕ)
   pub tasks : List (List ℕ)
   pub names : List (List ℕ)
+  pub seen : List (List ℕ)
+  pub pairs : List NamedPair
   pub supers : ℕ
   pub used : ℕ → Bool
   pub group : Option OpenGroup
@@ -92,6 +102,8 @@ nothing_told =
       patterns = [];
       tasks = [];
       names = [];
+      seen = [];
+      pairs = [];
       supers = 0;
       used = λ hook. false;
       group = None;
@@ -298,6 +310,8 @@ told_with (UnlockLine name) t =
     }
 told_with HoldLine t = record t { group = Some Held; began = t.so_far }
 told_with ReleaseLine t = record t { group = None; groups = onto_last (group_from t All t.so_far) t.groups }
+told_with (NameSeen name) t = record t { seen = and_name t.seen name }
+told_with (PairMade outer inner) t = record t { pairs = t.pairs ++ record { outer = outer; inner = inner } ∷ [] }
 
 -- What lines with these statements tell, the nearest first.
 abbrev pub told : List Statement → Told
@@ -314,22 +328,64 @@ abbrev pub fill_lines : List ℕ → List Rectangle → List Statement
 fill_lines layer rects = map (λ r. CallLine (layer ∷ []) (FillAct r)) rects
 
 -- The statements that an area of these rectangles stands for: its fills, which in no group are a lock group of their own. Without
--- a rectangle there is no group either.
+-- a rectangle there is no group either, and the layer's name alone stands on the line.
 abbrev pub area_lines : Option OpenGroup → List ℕ → List Rectangle → List Statement
-area_lines group layer [] = []
+area_lines group layer [] = NameSeen layer ∷ []
 area_lines None layer (r ∷ rs) = LockLine layer ∷ fill_lines layer (r ∷ rs) ++ UnlockLine layer ∷ []
 area_lines (Some group) layer (r ∷ rs) = fill_lines layer (r ∷ rs)
+
+-- the inner layer of the window with this outer one
+abbrev pub inner_of : List NamedPair → List ℕ → List ℕ
+inner_of [] name = []
+inner_of (p ∷ ps) name = if bytes_eq name p.outer then p.inner else inner_of ps name
+
+-- The box of the inner layer in that of the outer one: a frame takes 4 columns on each side, 11 rows at the top and 2 at the
+-- bottom.
+abbrev pub inner_box : Rectangle → Rectangle
+inner_box r = four (r.min_x +ℤ pos 4) (r.min_y +ℤ pos 11) (r.max_x -ℤ pos 8) (r.max_y -ℤ pos 13)
+
+-- the calls of what is done with a window of these two layers
+abbrev pub gzz_calls : List ℕ → List ℕ → GzzAct → List Statement
+gzz_calls g i (OpenGzz inner kind place r classes title) =
+    CallLine (g ∷ []) (OpenAct (new_without_bitmap Smart place r false None) true false classes title)
+    ∷ CallLine (i ∷ []) (OpenAct (new_without_bitmap kind place (inner_box r) false None) false false classes [])
+    ∷ CallLine (i ∷ g ∷ []) InFrontAct
+    ∷ []
+gzz_calls g i (BoxGzz r) = CallLine (g ∷ []) (BoxAct r) ∷ CallLine (i ∷ []) (BoxAct (inner_box r)) ∷ []
+gzz_calls g i FrontGzz = CallLine (g ∷ []) (BareAct FrontVerb) ∷ CallLine (i ∷ []) (BareAct FrontVerb) ∷ []
+gzz_calls g i BehindGzz = CallLine (i ∷ []) (BareAct BehindVerb) ∷ CallLine (g ∷ []) (BareAct BehindVerb) ∷ []
+gzz_calls g i (InFrontGzz m) = CallLine (g ∷ m ∷ []) InFrontAct ∷ CallLine (i ∷ g ∷ []) InFrontAct ∷ []
+gzz_calls g i CloseGzz = CallLine (g ∷ []) (BareAct CloseVerb) ∷ CallLine (i ∷ []) (BareAct CloseVerb) ∷ []
+
+-- the inner layer of the window, which an opening names itself
+abbrev pub inner_by : List NamedPair → List ℕ → GzzAct → List ℕ
+inner_by pairs g (OpenGzz inner kind place r classes title) = inner
+inner_by pairs g act = inner_of pairs g
+
+-- an opening makes a pair
+abbrev pub pair_lines : List ℕ → GzzAct → List Statement
+pair_lines g (OpenGzz inner kind place r classes title) = PairMade g inner ∷ []
+pair_lines g act = []
+
+-- The statements that it stands for: its calls in a hold group.
+abbrev pub gzz_lines : List NamedPair → List ℕ → GzzAct → List Statement
+gzz_lines pairs g act = HoldLine ∷ gzz_calls g (inner_by pairs g act) act ++ ReleaseLine ∷ pair_lines g act
 
 -- The statements that a line stands for below lines that tell this, the first one first. It tells what these tell, one after
 -- another.
 abbrev pub stands_for : Told → Line → List Statement
 stands_for t (StatementLine f) = f ∷ []
 stands_for t (AreaLine layer pattern points) = area_lines t.group layer (area_rectangles points (area_words t pattern))
+stands_for t (GzzLine g act) = gzz_lines t.pairs g act
 
 -- what lines tell with further statements below them, the first one first
 abbrev pub told_all : List Statement → Told → Told
 told_all [] t = t
 told_all (f ∷ fs) t = told_all fs (told_with f t)
+
+-- a window of two layers by their slots, which are the places of their names
+abbrev pub pair_among : List (List ℕ) → NamedPair → Pair
+pair_among names p = record { outer = place_among names p.outer; inner = place_among names p.inner }
 
 -- The plan that the lines of a whole script tell, where so many hooks are handed in.
 abbrev pub plan_of : ℕ → Told → Plan
@@ -350,6 +406,6 @@ plan_of hooks t =
       bitmap_names = t.bitmap_names;
       calls = t.calls;
       groups = t.groups;
-      pairs = [];
+      pairs = map (pair_among t.names) t.pairs;
       assets = record { glyphs = map (λ i. t.glyphs (32 + i)) (range_with_len 0 95); bitmaps = t.bitmaps [] };
     }

@@ -14,8 +14,10 @@ use Rattle.lw_grammar.specs.declared.verb.PairVerb.{PairVerb}
 use Rattle.lw_grammar.specs.declared.verb.PairVerb.TheVariants.{Move, Size, At, Write, Read, Draw, Scroll}
 use Rattle.lw_grammar.specs.declared.verb.TextVerb.{TextVerb}
 use Rattle.lw_grammar.specs.declared.verb.TextVerb.TheVariants.{Text as TextOf, Title}
+use Rattle.lw_grammar.specs.declared.verb.GzzVerb.{GzzVerb}
+use Rattle.lw_grammar.specs.declared.verb.GzzVerb.TheVariants.{Open as OpenGzz, Box as BoxGzz, Front as FrontGzz, Behind as BehindGzz, InFront as InFrontGzz, Close as CloseGzz}
 use Rattle.lw_grammar.specs.declared.verb.Verb.{Verb}
-use Rattle.lw_grammar.specs.declared.verb.Verb.TheVariants.{Part, Bare, Number, Pair, Text, Rect, Region, ClearRegion, Create, Open, InFront, Box, Which, Fill, ScrollRaster, Put, Blit, EndRefresh, Area, AreaPattern}
+use Rattle.lw_grammar.specs.declared.verb.Verb.TheVariants.{Part, Bare, Number, Pair, Text, Rect, Region, ClearRegion, Create, Open, InFront, Box, Which, Fill, ScrollRaster, Put, Blit, EndRefresh, Area, AreaPattern, Gzz}
 
 -- the words of verbs, by their kinds
 abbrev pub part_word : PartVerb → List ℕ
@@ -75,6 +77,14 @@ region_word OrP = codes "orregion"
 region_word AndP = codes "andregion"
 region_word XorP = codes "xorregion"
 
+abbrev pub gzz_word : GzzVerb → List ℕ
+gzz_word OpenGzz = codes "gopen"
+gzz_word BoxGzz = codes "gbox"
+gzz_word FrontGzz = codes "gfront"
+gzz_word BehindGzz = codes "gbehind"
+gzz_word InFrontGzz = codes "ginfront"
+gzz_word CloseGzz = codes "gclose"
+
 -- the word of a verb
 abbrev pub verb_word : Verb → List ℕ
 verb_word (Part verb) = part_word verb
@@ -97,6 +107,7 @@ verb_word Blit = codes "blit"
 verb_word EndRefresh = codes "endrefresh"
 verb_word Area = codes "area"
 verb_word AreaPattern = codes "areapat"
+verb_word (Gzz verb) = gzz_word verb
 
 -- all verbs
 abbrev pub verbs : List Verb
@@ -108,7 +119,8 @@ verbs =
     Pair Move ∷ Pair Size ∷ Pair At ∷ Pair Write ∷ Pair Read ∷ Pair Draw ∷ Pair Scroll ∷
     Text TextOf ∷ Text Title ∷
     Rect OrR ∷ Rect AndR ∷ Rect XorR ∷ Rect ClearR ∷ Region OrP ∷ Region AndP ∷ Region XorP ∷ ClearRegion ∷
-    Create ∷ Open ∷ InFront ∷ Box ∷ Which ∷ Fill ∷ ScrollRaster ∷ Put ∷ Blit ∷ EndRefresh ∷ Area ∷ AreaPattern ∷ []
+    Create ∷ Open ∷ InFront ∷ Box ∷ Which ∷ Fill ∷ ScrollRaster ∷ Put ∷ Blit ∷ EndRefresh ∷ Area ∷ AreaPattern ∷
+    Gzz OpenGzz ∷ Gzz BoxGzz ∷ Gzz FrontGzz ∷ Gzz BehindGzz ∷ Gzz InFrontGzz ∷ Gzz CloseGzz ∷ []
 
 -- the first of these verbs that has the word, if one has
 abbrev pub verb_in : List Verb → List ℕ → Option Verb

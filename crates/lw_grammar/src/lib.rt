@@ -11,4 +11,4 @@ mod verb;
 pub use form::Form;
 pub use laws::{inputs_are_decided, spelled_inputs_are_runnable};
 pub use reason::Reason;
-pub use verb::{BareVerb, NumberVerb, PairVerb, PartVerb, TextVerb, Verb};
+pub use verb::{BareVerb, GzzVerb, NumberVerb, PairVerb, PartVerb, TextVerb, Verb};

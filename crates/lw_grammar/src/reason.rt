@@ -18,10 +18,13 @@ pub enum Reason {
     Form,
     /// A number is outside its range, a glyph's code outside 0x20 to 0x7e, or a maximum below its minimum.
     Range,
-    /// No bitmap, or no pattern, of this name stands above.
+    /// No bitmap, no pattern, or no window of two layers, of this name stands above.
     NoName,
-    /// A bitmap, a pattern or a task of this name, or a glyph of this code, stands above.
+    /// A bitmap, a pattern or a task of this name, or a glyph of this code, stands above; or so does a layer's name for a new
+    /// window of two layers, whose two names may not be one either.
     DoubleName,
+    /// The line would part the two layers of a window that a `gopen` above made.
+    Gzz,
     /// The line may not stand in this group, or ends none, or ends one without a call.
     Group,
     /// A 17th task, bitmap, pattern or line that asks for a super-bitmap layer, or a layer name or a call of a task more than the

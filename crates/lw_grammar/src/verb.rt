@@ -61,6 +61,17 @@ pub enum TextVerb {
     Title,
 }
 
+/// The first word of a line that is done with a window of two layers, as `gfront G`.
+#[derive(Clone, Copy, Debug, PartialEq, Eq)]
+pub enum GzzVerb {
+    Open,
+    Box,
+    Front,
+    Behind,
+    InFront,
+    Close,
+}
+
 /// The first word of a script's line, by the kind of the line.
 #[derive(Clone, Copy, Debug, PartialEq, Eq)]
 pub enum Verb {
@@ -88,4 +99,6 @@ pub enum Verb {
     Area,
     /// `areapat`, which leaves those of a pattern.
     AreaPattern,
+    /// `gopen`, and its kin.
+    Gzz(GzzVerb),
 }

@@ -1,46 +1,99 @@
 //! The lines that begin and end groups.
 
-ghost use Rattle.std.specs.Prelude.{◌≡◌, ◌++◌, OnOk};
-ghost use Rattle.lw_canonical.specs.Canonical.{is_update, opening_lines, closing_lines};
-ghost use Rattle.lw_print.specs.Behind.{text_of_lines};
-ghost use Rattle.lw_print.specs.Grouping.{opening_at, closing_at, left_after};
+ghost use Rattle.std.specs.Prelude.{◌≡◌, ◌++◌, ◌≤◌, ◌<◌, true, length, IfOk, OnOk, Option};
+ghost use Rattle.lw_calls.specs.Plan.{groups_fit, group_calls};
+ghost use Rattle.lw_canonical.specs.Canonical.{is_update, word_for, opening_lines, closing_lines};
+ghost use Rattle.lw_print.specs.Behind.{text_of};
+ghost use Rattle.lw_print.specs.Grouping.{word_at, opening_at, closing_at, left_after};
 
 use crate::lines::push_named_line;
-use lw_calls::{Call, Group, Hold, Text};
+use crate::pairs::{push_word_line, word_among};
+use lw_calls::{Call, Group, Hold, Pair, Text};
+use lw_gzz::GzzWord;
 use lw_text_output::{name_of, push_line};
-use std::alloc::AllocError;
+use std::alloc::{AllocError, Global};
 
-/// Writes the line that begins the first of the groups that are left, where it begins at call `number` and is no update.
-/// `names` has the layers' names by slot.
+/// What is done with a pair by the first of the groups that are left, if it has call `number` and stands for it.
+pub fn word_at(
+    alloc: Global,
+    pairs: &[Pair],
+    calls: &[Call],
+    left: &[Group],
+    number: usize,
+) -> Result<Option<(Pair, GzzWord)>, AllocError>
+    requires { groups_fit calls.now left.now ≡ true }
+    ensures { IfOk result (λ word. word ≡ word_at pairs.now calls.now left.now number) }
+{
+    match left {
+        [group, ..] if group.first as usize <= number && number <= group.last as usize => {
+            word_for(alloc, pairs, calls, group)
+        }
+        _ => Ok(None),
+    }
+}
+
+/// What is done with a pair by a group, if it stands for it.
+fn word_for(
+    alloc: Global,
+    pairs: &[Pair],
+    calls: &[Call],
+    group: &Group,
+) -> Result<Option<(Pair, GzzWord)>, AllocError>
+    requires order { group.now.first ≤ group.now.last }
+    requires inside { group.now.last < length calls.now }
+    ensures { IfOk result (λ word. word ≡ word_for pairs.now calls.now group.now) }
+{
+    match group.hold {
+        Hold::All => word_among(alloc, pairs, group_calls(calls, group)),
+        Hold::Slot(_) => Ok(None),
+    }
+}
+
+/// The calls of a group.
+fn group_calls<'a>(calls: &'a [Call], group: &Group) -> &'a [Call]
+    requires order { group.now.first ≤ group.now.last }
+    requires inside { group.now.last < length calls.now }
+    ensures { result.now ≡ group_calls calls.now group.now }
+{
+    &calls[group.first as usize..group.last as usize + 1]
+}
+
+/// Writes the line that begins the first of the groups that are left, where it begins at call `number` and is no update: that
+/// of what is done with a pair, where it stands for that. `names` has the layers' names by slot.
 pub fn push_opening(
+    alloc: Global,
     out: &mut Vec<u8>,
     names: &[Text],
     calls: &[Call],
     left: &[Group],
     number: usize,
+    word: &Option<(Pair, GzzWord)>,
 ) -> Result<(), AllocError>
-    ensures { OnOk result (out.new.items ≡ out.old.items ++ text_of_lines (opening_at names.now calls.now left.now number)) }
+    ensures { OnOk result (out.new.items ≡ out.old.items ++ text_of (opening_at names.now calls.now left.now number word.now)) }
 {
     match left {
-        [group, ..] if group.first as usize == number => {
-            push_opening_line(out, names, group.hold, is_update(calls, group))
-        }
+        [group, ..] if group.first as usize == number => match word {
+            Some((pair, word)) => push_word_line(alloc, out, names, pair, word),
+            None => push_opening_line(out, names, group.hold, is_update(calls, group)),
+        },
         _ => Ok(()),
     }
 }
 
-/// Writes the line that ends the first of the groups that are left, where it ends at call `number` and is no update.
+/// Writes the line that ends the first of the groups that are left, where it ends at call `number`, is no update and stands for
+/// nothing that is done with a pair.
 pub fn push_closing(
     out: &mut Vec<u8>,
     names: &[Text],
     calls: &[Call],
     left: &[Group],
     number: usize,
+    word: &Option<(Pair, GzzWord)>,
 ) -> Result<(), AllocError>
-    ensures { OnOk result (out.new.items ≡ out.old.items ++ text_of_lines (closing_at names.now calls.now left.now number)) }
+    ensures { OnOk result (out.new.items ≡ out.old.items ++ text_of (closing_at names.now calls.now left.now number word.now)) }
 {
     match left {
-        [group, ..] if group.last as usize == number => {
+        [group, ..] if group.last as usize == number && word.is_none() => {
             push_closing_line(out, names, group.hold, is_update(calls, group))
         }
         _ => Ok(()),
@@ -74,7 +127,7 @@ fn push_opening_line(
     hold: Hold,
     updating: bool,
 ) -> Result<(), AllocError>
-    ensures { OnOk result (out.new.items ≡ out.old.items ++ text_of_lines (opening_lines names.now hold updating)) }
+    ensures { OnOk result (out.new.items ≡ out.old.items ++ text_of (opening_lines names.now hold updating)) }
 {
     match hold {
         Hold::All => push_line(out, b"hold"),
@@ -90,7 +143,7 @@ fn push_closing_line(
     hold: Hold,
     updating: bool,
 ) -> Result<(), AllocError>
-    ensures { OnOk result (out.new.items ≡ out.old.items ++ text_of_lines (closing_lines names.now hold updating)) }
+    ensures { OnOk result (out.new.items ≡ out.old.items ++ text_of (closing_lines names.now hold updating)) }
 {
     match hold {
         Hold::All => push_line(out, b"release"),

@@ -9,6 +9,7 @@ mod glyphs;
 mod groups;
 mod lines;
 mod making;
+mod pairs;
 mod tasks;
 mod verbs;
 mod whole;

@@ -18,17 +18,17 @@ pub fn push_created(alloc: Global, out: &mut Vec<u8>, make: &Make) -> Result<(),
         ++ behind (kind_word make.now.kind ∷ place_word make.now.place ∷ four_words (created_layer make.now).numbers
         ++ created_words make.now.kind (created_layer make.now))) }
 {
-    push_kind_and_place(out, make)?;
+    push_kind_and_place(out, make.kind, make.place)?;
     push_created_bounds(alloc, out, make)?;
     push_created_options(alloc, out, make)
 }
 
 /// Writes a layer's kind and its place.
-fn push_kind_and_place(out: &mut Vec<u8>, make: &Make) -> Result<(), AllocError>
-    ensures { OnOk result (out.new.items ≡ out.old.items ++ behind (kind_word make.now.kind ∷ place_word make.now.place ∷ [])) }
+pub fn push_kind_and_place(out: &mut Vec<u8>, kind: Kind, place: Place) -> Result<(), AllocError>
+    ensures { OnOk result (out.new.items ≡ out.old.items ++ behind (kind_word kind ∷ place_word place ∷ [])) }
 {
-    push_word(out, kind_word(make.kind).as_bytes())?;
-    push_word(out, place_word(make.place).as_bytes())
+    push_word(out, kind_word(kind).as_bytes())?;
+    push_word(out, place_word(place).as_bytes())
 }
 
 /// The word of a layer's kind.
@@ -122,7 +122,7 @@ pub fn push_opened(
         ++ behind (kind_word make.now.kind ∷ place_word make.now.place ∷ four_words (opened_layer make.now).numbers
         ++ opened_words make.now.kind (opened_layer make.now) framed nocare asks)) }
 {
-    push_kind_and_place(out, make)?;
+    push_kind_and_place(out, make.kind, make.place)?;
     push_place_and_size(alloc, out, make)?;
     push_opened_options(alloc, out, make, framed, nocare, asks)
 }
@@ -178,7 +178,7 @@ fn push_options_without_bitmap(
 }
 
 /// Writes the classes of messages that are asked for, and nothing where there are none.
-fn push_asks(out: &mut Vec<u8>, asks: u8) -> Result<(), AllocError>
+pub fn push_asks(out: &mut Vec<u8>, asks: u8) -> Result<(), AllocError>
     ensures { OnOk result (out.new.items ≡ out.old.items ++ behind (ask_words asks)) }
 {
     if asks == 0 {

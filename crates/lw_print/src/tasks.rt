@@ -1,13 +1,13 @@
 //! The lines of tasks.
 
-ghost use Rattle.std.specs.Prelude.{◌≡◌, ◌<◌, ◌++◌, OnOk};
+ghost use Rattle.std.specs.Prelude.{◌≡◌, ◌<◌, ◌++◌, true, OnOk};
 ghost use Rattle.lw_canonical.specs.Canonical.{lines_from, lines_of_task};
-ghost use Rattle.lw_calls.specs.Plan.{task_calls, task_groups};
-ghost use Rattle.lw_print.specs.Behind.{text_of_lines};
-ghost use Rattle.lw_print.specs.Grouping.{lines_at};
+ghost use Rattle.lw_calls.specs.Plan.{task_calls, task_groups, groups_fit};
+ghost use Rattle.lw_print.specs.Behind.{text_of};
+ghost use Rattle.lw_print.specs.Grouping.{lines_around};
 
 use crate::calls::push_call;
-use crate::groups::{groups_behind, push_closing, push_opening};
+use crate::groups::{groups_behind, push_closing, push_opening, word_at};
 use crate::lines::push_named_line;
 use lw_calls::{Call, Group, Plan};
 use lw_text_output::{name_of, push_line};
@@ -16,7 +16,7 @@ use std::alloc::{AllocError, Global};
 /// Writes the lines of a task.
 pub fn push_task(alloc: Global, out: &mut Vec<u8>, plan: &Plan, task: u32) -> Result<(), AllocError>
     requires { task < plan.now.sizes.tasks }
-    ensures { OnOk result (out.new.items ≡ out.old.items ++ text_of_lines (lines_of_task plan.now task)) }
+    ensures { OnOk result (out.new.items ≡ out.old.items ++ text_of (lines_of_task plan.now task)) }
 {
     push_named_line(out, b"task", name_of(plan.task_names(), task as usize))?;
     push_calls(alloc, out, plan, task)?;
@@ -27,7 +27,7 @@ pub fn push_task(alloc: Global, out: &mut Vec<u8>, plan: &Plan, task: u32) -> Re
 fn push_calls(alloc: Global, out: &mut Vec<u8>, plan: &Plan, task: u32) -> Result<(), AllocError>
     requires { task < plan.now.sizes.tasks }
     ensures { OnOk result (out.new.items ≡ out.old.items
-        ++ text_of_lines (lines_from plan.now (task_calls plan.now task) (task_groups plan.now task) 0
+        ++ text_of (lines_from plan.now (task_calls plan.now task) (task_groups plan.now task) 0
         (task_calls plan.now task))) }
 {
     // The clause of `sizes` tells the proof that the groups of the task stand in order.
@@ -41,7 +41,8 @@ fn push_calls(alloc: Global, out: &mut Vec<u8>, plan: &Plan, task: u32) -> Resul
     Ok(())
 }
 
-/// Writes the line of a call, with those of its group. `left` has the groups that didn't end before it.
+/// Writes the line of a call, with those of its group, or that of what its group stands for at its first call. `left` has the
+/// groups that didn't end before it.
 fn push_grouped(
     alloc: Global,
     out: &mut Vec<u8>,
@@ -51,10 +52,15 @@ fn push_grouped(
     number: usize,
     call: &Call,
 ) -> Result<(), AllocError>
+    requires { groups_fit calls.now left.now ≡ true }
     ensures { OnOk result (out.new.items ≡ out.old.items
-        ++ text_of_lines (lines_at plan.now calls.now left.now number call.now)) }
+        ++ text_of (lines_around plan.now calls.now left.now number call.now)) }
 {
-    push_opening(out, plan.slot_names(), calls, left, number)?;
-    push_call(alloc, out, plan.slot_names(), plan.bitmap_names(), call)?;
-    push_closing(out, plan.slot_names(), calls, left, number)
+    let names = plan.slot_names();
+    let word = word_at(alloc, plan.pairs(), calls, left, number)?;
+    push_opening(alloc, out, names, calls, left, number, &word)?;
+    if word.is_none() {
+        push_call(alloc, out, names, plan.bitmap_names(), call)?;
+    }
+    push_closing(out, names, calls, left, number, &word)
 }

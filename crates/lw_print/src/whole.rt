@@ -6,7 +6,7 @@ ghost use Rattle.lw_canonical.specs.Canonical.{canonical_text, lines_of_version,
 ghost use Rattle.lw_grammar.specs.Statements.{ScreenLine};
 ghost use Rattle.lw_calls.specs.Written.{line_of};
 ghost use Rattle.lw_canonical.specs.Spelling.{spelled};
-ghost use Rattle.lw_print.specs.Behind.{text_of_lines};
+ghost use Rattle.lw_print.specs.Behind.{text_of_lines, text_of};
 ghost use Rattle.lw_print.specs.Parts.{glyph_lines, bitmap_lines};
 
 use crate::bitmaps::push_bitmaps;
@@ -70,7 +70,7 @@ fn push_assets(
 /// Writes the lines of each task in rising number.
 fn push_tasks(alloc: Global, out: &mut Vec<u8>, plan: &Plan) -> Result<(), AllocError>
     ensures { OnOk result (out.new.items ≡ out.old.items
-        ++ text_of_lines (flat_map (lines_of_task plan.now) (range_with_len 0 plan.now.sizes.tasks))) }
+        ++ text_of (flat_map (lines_of_task plan.now) (range_with_len 0 plan.now.sizes.tasks))) }
 {
     for task in 0..plan.sizes().tasks {
         push_task(alloc, out, plan, task)?;

@@ -1,9 +1,9 @@
 -- The statements of an area one after another, and those of a line that was read.
-use Rattle.std.proofs.Common.{◌≡◌, ℕ, ◌+◌, ◌<◌, ◌≤◌, ◌==◌, true, false, List, [], ◌∷◌, length, drop, get_or, Option, option_map, Some, None, is_some, Result, Ok, Err, refl, sym, ap, subst, ◌∙◌}
+use Rattle.std.proofs.Common.{◌≡◌, ℕ, ◌+◌, ◌<◌, ◌≤◌, ◌==◌, true, false, List, [], ◌∷◌, length, map, drop, get_or, Option, option_map, Some, None, is_some, Result, Ok, Err, refl, sym, ap, subst, ◌∙◌, arith}
 use Rattle.lw_region.specs.Rectangle.{Rectangle}
 use Rattle.lw_grammar.specs.declared.reason.Reason.{Reason}
 use Rattle.lw_grammar.specs.Demands.{◌>>=◌}
-use Rattle.lw_grammar.specs.Statements.{Statement, FillAct, CallLine, Line}
+use Rattle.lw_grammar.specs.Statements.{Statement, FillAct, CallLine, NameSeen, Line}
 use Rattle.lw_grammar.specs.Told.{OpenGroup, fill_lines, area_lines, stands_for, told}
 use Rattle.lw_grammar.specs.Script.{Setting, added, is_skipped, line_read, statements_with}
 use Rattle.lw_grammar.specs.GoodLines.{AreGoodLines}
@@ -17,17 +17,18 @@ use Rattle.lw_script.specs.Answers.{Takes, Advances}
 use Rattle.lw_script.specs.AreasRead.{locked_fills}
 use Rattle.lw_script.specs.ReaderKnows.{known}
 use Rattle.lw_script.specs.Represents.{Represents, CanAdd, CanAddAll}
-use Rattle.std.proofs.lemmas.Bool.{false≢true, true≢false}
+use Rattle.std.proofs.lemmas.Bool.{eqb-true, false≢true, true≢false}
 use Rattle.std.proofs.lemmas.List.{drop_more, drop_all}
 
 -- an area's statements in no group, and in one
-pub lines_without : (o : Option OpenGroup) (layer : List ℕ) (rects : List Rectangle) → rects ≡ [] → area_lines o layer rects ≡ []
-lines_without o layer rects e = rw e refl
+pub lines_without : (o : Option OpenGroup) (layer : List ℕ) (rects : List Rectangle) → (length rects == 0) ≡ true → area_lines o layer rects ≡ NameSeen layer ∷ []
+lines_without o layer [] e = refl
+lines_without o layer (r ∷ rs) e = absurd (omega (arith, eqb-true (length (r ∷ rs)) 0 e))
 
-in_group : (o : Option OpenGroup) (layer : List ℕ) (rects : List Rectangle) → is_some o ≡ true → area_lines o layer rects ≡ fill_lines layer rects
-in_group None layer rects e = absurd (false≢true e)
-in_group (Some g) layer [] e = refl
-in_group (Some g) layer (r ∷ rs) e = refl
+in_group : (o : Option OpenGroup) (layer : List ℕ) (rects : List Rectangle) → is_some o ≡ true → (length rects == 0) ≡ false → area_lines o layer rects ≡ fill_lines layer rects
+in_group None layer rects e some = absurd (false≢true e)
+in_group (Some g) layer [] e some = absurd (true≢false some)
+in_group (Some g) layer (r ∷ rs) e some = refl
 
 in_none : (o : Option OpenGroup) (layer : List ℕ) (rects : List Rectangle) → is_some o ≡ false → (length rects == 0) ≡ false → area_lines o layer rects ≡ locked_fills layer rects
 in_none o layer [] e some = absurd (true≢false some)
@@ -38,41 +39,43 @@ group_open : (o : Option ReadGroup) → is_some (option_map group_meaning o) ≡
 group_open None = refl
 group_open (Some g) = refl
 
-pub lines_in_group : (o : Option ReadGroup) (p : Option OpenGroup) (layer : List ℕ) (rects : List Rectangle) → option_map group_meaning o ≡ p → is_some o ≡ true → area_lines p layer rects ≡ fill_lines layer rects
-lines_in_group o p layer rects e h = in_group p layer rects (ap is_some (sym e) ∙ group_open o ∙ h)
+pub lines_in_group : (o : Option ReadGroup) (p : Option OpenGroup) (layer : List ℕ) (rects : List Rectangle) → option_map group_meaning o ≡ p → is_some o ≡ true → (length rects == 0) ≡ false → area_lines p layer rects ≡ fill_lines layer rects
+lines_in_group o p layer rects e h some = in_group p layer rects (ap is_some (sym e) ∙ group_open o ∙ h) some
 
 pub lines_in_none : (o : Option ReadGroup) (p : Option OpenGroup) (layer : List ℕ) (rects : List Rectangle) → option_map group_meaning o ≡ p → is_some o ≡ false → (length rects == 0) ≡ false → area_lines p layer rects ≡ locked_fills layer rects
 lines_in_none o p layer rects e h some = in_none p layer rects (ap is_some (sym e) ∙ group_open o ∙ h) some
 
 -- a fill of a layer
-abbrev fill : List ℕ → Rectangle → Statement
+abbrev pub fill : List ℕ → Rectangle → Statement
 fill layer r = CallLine (layer ∷ []) (FillAct r)
-
--- the fills that are left, the first one first
-fills_left : (layer : List ℕ) (rects : List Rectangle) (i : ℕ) (r : Rectangle) → i < length rects → r ≡ get_or rects i r → fill_lines layer (drop i rects) ≡ fill layer r ∷ fill_lines layer (drop (i + 1) rects)
-fills_left layer rects i r h e =
-    ap (fill_lines layer) (drop_more rects i r h) ∙ ap (λ q. fill layer q ∷ fill_lines layer (drop (i + 1) rects)) (sym e)
 
 -- of statements that can be added the first one can
 pub first_addable : (r : Reader) (f : Statement) (fs : List Statement) → CanAddAll r (f ∷ fs) → CanAdd r f
 first_addable r f fs c = (c.0, c.1, c.2, without_last c.0 fs (f ∷ c.1) c.3)
 
--- so the first fill that is left can be added, and below it those after it
-pub fill_addable : (r : Reader) (layer : List ℕ) (rects : List Rectangle) (i : ℕ) (q : Rectangle) → i < length rects → q ≡ get_or rects i q → CanAddAll r (fill_lines layer (drop i rects)) → CanAdd r (fill layer q)
-fill_addable r layer rects i q h e c =
-    first_addable r (fill layer q) (fill_lines layer (drop (i + 1) rects)) (subst (CanAddAll r) (fills_left layer rects i q h e) c)
+-- Statements that are made of a list's elements.
+module _ {A : Type 0} (made : A → Statement) (xs : List A) where
+  -- those that are left, the first one first
+  some_left : (i : ℕ) (x : A) → i < length xs → x ≡ get_or xs i x → map made (drop i xs) ≡ made x ∷ map made (drop (i + 1) xs)
+  some_left i x h e =
+      ap (map made) (drop_more xs i x h) ∙ ap (λ q. made q ∷ map made (drop (i + 1) xs)) (sym e)
 
-pub rest_addable : (r new : Reader) (layer : List ℕ) (rects : List Rectangle) (i : ℕ) (q : Rectangle) → i < length rects → q ≡ get_or rects i q → ((s : Setting) (above : List Statement) → Represents s r above → Represents s new (fill layer q ∷ above)) → CanAddAll r (fill_lines layer (drop i rects)) → CanAddAll new (fill_lines layer (drop (i + 1) rects))
-rest_addable r new layer rects i q h e f c =
-    let g : CanAddAll r (fill layer q ∷ fill_lines layer (drop (i + 1) rects)) = subst (CanAddAll r) (fills_left layer rects i q h e) c in
-    (g.0, fill layer q ∷ g.1, f g.0 g.1 g.2, g.3)
+  -- the first one that is left can be added, and below it those after it
+  pub next_addable : (r : Reader) (i : ℕ) (x : A) → i < length xs → x ≡ get_or xs i x → CanAddAll r (map made (drop i xs)) → CanAdd r (made x)
+  next_addable r i x h e c =
+      first_addable r (made x) (map made (drop (i + 1) xs)) (subst (CanAddAll r) (some_left i x h e) c)
 
--- below it the fills that are left give the same, and at the end none is left
-pub same_filled : (layer : List ℕ) (rects : List Rectangle) (i : ℕ) (q : Rectangle) (new all : List Statement) → i < length rects → q ≡ get_or rects i q → added (fill_lines layer (drop i rects)) new ≡ all → added (fill_lines layer (drop (i + 1) rects)) (fill layer q ∷ new) ≡ all
-same_filled layer rects i q new all h e f = sym (ap (λ fs. added fs new) (fills_left layer rects i q h e)) ∙ f
+  pub rest_addable : (r new : Reader) (i : ℕ) (x : A) → i < length xs → x ≡ get_or xs i x → ((s : Setting) (above : List Statement) → Represents s r above → Represents s new (made x ∷ above)) → CanAddAll r (map made (drop i xs)) → CanAddAll new (map made (drop (i + 1) xs))
+  rest_addable r new i x h e f c =
+      let g : CanAddAll r (made x ∷ map made (drop (i + 1) xs)) = subst (CanAddAll r) (some_left i x h e) c in
+      (g.0, made x ∷ g.1, f g.0 g.1 g.2, g.3)
 
-pub all_filled : (layer : List ℕ) (rects : List Rectangle) (i : ℕ) (new all : List Statement) → length rects ≤ i → added (fill_lines layer (drop i rects)) new ≡ all → new ≡ all
-all_filled layer rects i new all h e = sym (ap (λ rs. added (fill_lines layer rs) new) (drop_all i rects h)) ∙ e
+  -- below it those that are left give the same, and at the end none is left
+  pub same_added : (i : ℕ) (x : A) (new all : List Statement) → i < length xs → x ≡ get_or xs i x → added (map made (drop i xs)) new ≡ all → added (map made (drop (i + 1) xs)) (made x ∷ new) ≡ all
+  same_added i x new all h e f = sym (ap (λ fs. added fs new) (some_left i x h e)) ∙ f
+
+  pub all_added : (i : ℕ) (new all : List Statement) → length xs ≤ i → added (map made (drop i xs)) new ≡ all → new ≡ all
+  all_added i new all h e = sym (ap (λ ys. added (map made ys) new) (drop_all i xs h)) ∙ e
 
 -- the statements of an area that was read can be added
 pub area_addable : (r : Reader) (layer : List ℕ) (rects items : List Rectangle) (s : Setting) (above : List Statement) → rects ≡ items → Represents s r above → AreGoodLines s (added (area_lines (told above).group layer items) above) → CanAddAll r (area_lines (known r).group layer rects)

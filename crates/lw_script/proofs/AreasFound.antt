@@ -14,7 +14,7 @@ use Rattle.lw_grammar.specs.declared.reason.Reason.TheVariants.{Range, NoName, G
 use Rattle.lw_grammar.specs.Demands.{◌>>=◌, demand}
 use Rattle.lw_grammar.specs.Statements.{StatementLine}
 use Rattle.lw_grammar.specs.Told.{Told, place_among, area_words, area_lines}
-use Rattle.lw_grammar.specs.Script.{Setting, lacks_pattern, allows_area, are_few, statement_tested}
+use Rattle.lw_grammar.specs.Script.{Setting, lacks_pattern, allows_area, are_few, line_tested}
 use Rattle.lw_words.specs.declared.stop.Stop.{Stop}
 use Rattle.lw_words.specs.declared.stop.Stop.TheVariants.{Refused, Memory}
 use Rattle.lw_statements.specs.declared.statement.AskedPoint.{AskedPoint}
@@ -109,7 +109,7 @@ area_found t area (Err (Refused reason)) a b c h =
 area_found t area (Err Memory) a b c h = tt
 
 -- what a line says that passes its tests
-pub statement_found : (s : Setting) (t : Told) (f : Statement) (o : Result (Unit {0}) Reason) → o ≡ statement_tested s t (statement_meaning f) → o ≡ Ok tt → ReadsBelow t (Ok (StatementRead f)) (if_passed s t (StatementLine (statement_meaning f)))
+pub statement_found : (s : Setting) (t : Told) (f : Statement) (o : Result (Unit {0}) Reason) → o ≡ line_tested s t (StatementLine (statement_meaning f)) → o ≡ Ok tt → ReadsBelow t (Ok (StatementRead f)) (if_passed s t (StatementLine (statement_meaning f)))
 statement_found s t f o e h =
     let l = StatementLine (statement_meaning f) in
     (l, ap (λ (q : Result (Unit {0}) Reason). q >>= (λ _. Ok l)) (sym e ∙ h), refl)

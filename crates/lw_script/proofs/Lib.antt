@@ -5,9 +5,12 @@ mod AreasFound
 mod AssetsAdded
 mod Begun
 mod CallLines
+mod GzzCounts
+mod GzzFound
 mod InputAnswers
 mod LinesAlike
 mod ListsOfLists
+mod NamedPairs
 mod NamesAdded
 mod NamesWith
 mod OrderAnswers

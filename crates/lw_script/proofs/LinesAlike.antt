@@ -1,17 +1,17 @@
 -- Reading a line by what the reader knows gives what the grammar gives below the lines that it has read.
-use Rattle.std.proofs.Common.{◌≡◌, ℕ, ◌+◌, Bool, not, cond, List, [], ◌∷◌, ◌++◌, ℤ, unsigned_abs, Option, Some, None, Result, Ok, Err, refl, sym, ap, subst, ◌∙◌}
+use Rattle.std.proofs.Common.{◌≡◌, ℕ, ◌+◌, Bool, not, cond, ◌||◌, List, [], ◌∷◌, ◌++◌, bytes_eq, ℤ, unsigned_abs, Option, Some, None, is_none, Result, Ok, Err, refl, sym, ap, subst, ◌∙◌}
 use Rattle.std.specs.List.{list_all}
 use Rattle.lw_area.specs.declared.point.Point.{Point}
 use Rattle.lw_area.specs.Polygons.{is_in_range}
 use Rattle.lw_calls.specs.Limits.{limits_of}
-use Rattle.lw_grammar.specs.Told.{Told, and_name, and_names, makes_super, hook_on, area_words, area_lines, stands_for, told_with, told, told_all}
-use Rattle.lw_grammar.specs.Script.{Setting, lacks_name, lacks_pattern, gives_again, allows_area, are_few, is_no_hook, is_used, has_padding, words_read, line_made, statement_tested, area_tested, line_tested, line_read}
+use Rattle.lw_grammar.specs.Told.{Told, and_name, and_names, makes_super, hook_on, area_words, area_lines, gzz_lines, stands_for, told_with, told, told_all}
+use Rattle.lw_grammar.specs.Script.{Setting, lacks_name, lacks_pattern, gives_again, allows_area, are_few, is_no_hook, is_used, has_padding, parts_pair, stands_above, lacks_pair, names_again, comes_between, words_read, line_made, tested_with, area_tested, gzz_tested, line_tested, line_read}
 use Rattle.lw_grammar.specs.declared.reason.Reason.{Reason}
-use Rattle.lw_grammar.specs.declared.reason.Reason.TheVariants.{Range, NoName, DoubleName, Group, TooMany, NoHook, HookUsed, Padding}
+use Rattle.lw_grammar.specs.declared.reason.Reason.TheVariants.{Range, NoName, DoubleName, Gzz as GzzReason, Group, TooMany, NoHook, HookUsed, Padding}
 use Rattle.lw_grammar.specs.Demands.{◌>>=◌, demand}
-use Rattle.lw_grammar.specs.Statements.{Statement, GlyphLine, BitmapLine, PatternLine, TaskLine, CallLine, LockLine, UnlockLine, Line, StatementLine, AreaLine, is_line_in_range}
+use Rattle.lw_grammar.specs.Statements.{Statement, GlyphLine, BitmapLine, PatternLine, TaskLine, CallLine, LockLine, UnlockLine, GzzAct, OpenGzz, Line, StatementLine, AreaLine, GzzLine, is_line_in_range, is_gzz_in_range}
 use Rattle.lw_script.specs.declared.reading.ReadLine.{ReadLine}
-use Rattle.lw_script.specs.declared.reading.ReadLine.TheVariants.{Statement as StatementRead, Area as AreaRead}
+use Rattle.lw_script.specs.declared.reading.ReadLine.TheVariants.{Statement as StatementRead, Area as AreaRead, Gzz as GzzRead}
 use Rattle.lw_script.specs.declared.state.Reader.{Reader}
 use Rattle.lw_words.specs.declared.stop.Stop.{Stop}
 use Rattle.lw_script.specs.AreasRead.{lines_of, ReadsBelow}
@@ -122,18 +122,47 @@ module _ (s : Setting) (r : Reader) (above : List Statement) (k : Represents s r
       chain : (a b c d b' c' d' : Bool) → b ≡ b' → c ≡ c' → d ≡ d' → (demand a Range >>= (λ _. demand (not b) NoName >>= (λ _. demand c Group >>= (λ _. demand d TooMany)))) ≡ (demand a Range >>= (λ _. demand (not b') NoName >>= (λ _. demand c' Group >>= (λ _. demand d' TooMany))))
       chain a b c d b' c' d' p q r = rw (p, q, r) refl
 
-  -- the tests of a statement
-  tests_alike : (f : Statement) → statement_tested (setting_of r) (known r) f ≡ statement_tested s (told above) f
-  tests_alike f =
-      chain _ _ _ _ _ _ _ _ _ _ _ _ _ _ _ _ (ap (λ n. is_line_in_range n f) k.version) (ap (λ ns. lacks_name ns f) k.assets.names) (again f) (rw (k.tasks.group, k.tasks.began, k.tasks.so_far) refl) (few f) (ap (λ n. is_no_hook n (hook_on f)) k.hooks) (used (hook_on f)) (ap (λ n. has_padding n f) k.assets.width)
+  -- what is done with a window of two layers stands for the same, and passes the same tests
+  pairs_alike : (g : List ℕ) (act : GzzAct) → stands_for (known r) (GzzLine g act) ≡ stands_for (told above) (GzzLine g act)
+  pairs_alike g act = ap (λ ps. gzz_lines ps g act) k.tasks.pairs
+
+  above_alike : (name : List ℕ) → stands_above (known r) name ≡ stands_above (told above) name
+  above_alike name = rw (k.tasks.names, k.tasks.seen) refl
+
+  named_alike : (g : List ℕ) (act : GzzAct) → names_again (known r) g act ≡ names_again (told above) g act
+  named_alike g (OpenGzz inner kind place box classes title) =
+      ap (λ t. (t || stands_above (known r) inner) || bytes_eq g inner) (above_alike g)
+      ∙ ap (λ t. (stands_above (told above) g || t) || bytes_eq g inner) (above_alike inner)
+  named_alike g act = refl
+
+  gzz_alike : (g : List ℕ) (act : GzzAct) → gzz_tested (known r) g act ≡ gzz_tested (told above) g act
+  gzz_alike g act =
+      chain _ _ _ _ _ _ _ _ _ _ _ _ (rw (k.width, k.height) refl) (ap (λ ps. lacks_pair ps g act) k.tasks.pairs) (named_alike g act) (ap (λ ps. comes_between ps act) k.tasks.pairs) (ap is_none k.tasks.group) all
     where
-      chain : (a b c d e g h i a' b' c' d' e' g' h' i' : Bool) → a ≡ a' → b ≡ b' → c ≡ c' → d ≡ d' → e ≡ e' → g ≡ g' → h ≡ h' → i ≡ i' → (demand a Range >>= (λ _. demand (not b) NoName >>= (λ _. demand (not c) DoubleName >>= (λ _. demand d Group >>= (λ _. demand e TooMany >>= (λ _. demand (not g) NoHook >>= (λ _. demand (not h) HookUsed >>= (λ _. demand (not i) Padding)))))))) ≡ (demand a' Range >>= (λ _. demand (not b') NoName >>= (λ _. demand (not c') DoubleName >>= (λ _. demand d' Group >>= (λ _. demand e' TooMany >>= (λ _. demand (not g') NoHook >>= (λ _. demand (not h') HookUsed >>= (λ _. demand (not i') Padding))))))))
-      chain a b c d e g h i a' b' c' d' e' g' h' i' p q r s t u v w = rw (p, q, r, s, t, u, v, w) refl
+      fs : Told → List Statement
+      fs t = stands_for t (GzzLine g act)
+
+      all : are_few (limits_of r.version) (told_all (fs (known r)) (known r)) ≡ are_few (limits_of (told above).version) (told_all (fs (told above)) (told above))
+      all =
+          ap (λ gs. are_few (limits_of r.version) (told_all gs (known r))) (pairs_alike g act)
+          ∙ few_alike _ _ (told_all (fs (told above)) (known r)) (told_all (fs (told above)) (told above)) k.version (alike_all (fs (told above)) (known r) (told above) counts)
+
+      chain : (a b c d e h a' b' c' d' e' h' : Bool) → a ≡ a' → b ≡ b' → c ≡ c' → d ≡ d' → e ≡ e' → h ≡ h' → (demand a Range >>= (λ _. demand (not b) NoName >>= (λ _. demand (not c) DoubleName >>= (λ _. demand (not d) GzzReason >>= (λ _. demand e Group >>= (λ _. demand h TooMany)))))) ≡ (demand a' Range >>= (λ _. demand (not b') NoName >>= (λ _. demand (not c') DoubleName >>= (λ _. demand (not d') GzzReason >>= (λ _. demand e' Group >>= (λ _. demand h' TooMany))))))
+      chain a b c d e h a' b' c' d' e' h' p q r s t u = rw (p, q, r, s, t, u) refl
+
+  -- the tests of a statement
+  tests_alike : (f : Statement) → line_tested (setting_of r) (known r) (StatementLine f) ≡ line_tested s (told above) (StatementLine f)
+  tests_alike f =
+      chain _ _ _ _ _ _ _ _ _ _ _ _ _ _ _ _ _ _ (ap (λ n. is_line_in_range n f) k.version) (ap (λ ns. lacks_name ns f) k.assets.names) (again f) (ap (λ ps. parts_pair ps f) k.tasks.pairs) (rw (k.tasks.group, k.tasks.began, k.tasks.so_far) refl) (few f) (ap (λ n. is_no_hook n (hook_on f)) k.hooks) (used (hook_on f)) (ap (λ n. has_padding n f) k.assets.width)
+    where
+      chain : (a b c j d e g h i a' b' c' j' d' e' g' h' i' : Bool) → a ≡ a' → b ≡ b' → c ≡ c' → j ≡ j' → d ≡ d' → e ≡ e' → g ≡ g' → h ≡ h' → i ≡ i' → (demand a Range >>= (λ _. demand (not b) NoName >>= (λ _. demand (not c) DoubleName >>= (λ _. demand (not j) GzzReason >>= (λ _. demand d Group >>= (λ _. demand e TooMany >>= (λ _. demand (not g) NoHook >>= (λ _. demand (not h) HookUsed >>= (λ _. demand (not i) Padding))))))))) ≡ (demand a' Range >>= (λ _. demand (not b') NoName >>= (λ _. demand (not c') DoubleName >>= (λ _. demand (not j') GzzReason >>= (λ _. demand d' Group >>= (λ _. demand e' TooMany >>= (λ _. demand (not g') NoHook >>= (λ _. demand (not h') HookUsed >>= (λ _. demand (not i') Padding)))))))))
+      chain a b c j d e g h i a' b' c' j' d' e' g' h' i' p q r x s t u v w = rw (p, q, r, x, s, t, u, v, w) refl
 
   -- the tests of what a line says
   line_alike : (l : Line) → line_tested (setting_of r) (known r) l ≡ line_tested s (told above) l
   line_alike (StatementLine f) = tests_alike f
   line_alike (AreaLine layer pattern points) = area_alike layer pattern points
+  line_alike (GzzLine g act) = gzz_alike g act
 
   -- what is read of a line
   lines_alike : (line : List ℕ) → line_read (setting_of r) (known r) line ≡ line_read s (told above) line
@@ -156,10 +185,12 @@ module _ (s : Setting) (r : Reader) (above : List Statement) (k : Represents s r
   stands_alike : (l : Line) → stands_for (known r) l ≡ stands_for (told above) l
   stands_alike (StatementLine f) = refl
   stands_alike (AreaLine layer pattern points) = areas_alike layer pattern points
+  stands_alike (GzzLine g act) = pairs_alike g act
 
   read_alike : (read : ReadLine) → lines_of (known r) read ≡ lines_of (told above) read
   read_alike (StatementRead f) = refl
   read_alike (AreaRead layer rects) = ap (λ g. area_lines g layer.now rects.items) k.tasks.group
+  read_alike (GzzRead statements opened) = refl
 
   answer_alike : (answer : Result ReadLine Stop) (o : Result Line Reason) → ReadsBelow (known r) answer o → ReadsBelow (told above) answer o
   answer_alike (Ok read) o h = (h.0, h.1, sym (stands_alike h.0) ∙ h.2 ∙ read_alike read)

@@ -1,6 +1,6 @@
 -- Lines that leave what the reader has read: of glyphs, bitmaps and patterns, or of tasks.
 use Rattle.std.proofs.Common.{◌≡◌, ℕ, ◌==◌, Bool, true, false, List, ◌∷◌, Result, Ok, Err, OnOk, ℤ, refl, sym, subst, ◌∙◌}
-use Rattle.lw_grammar.specs.Statements.{Statement, LayersLine, ScreenLine, GlyphLine, BitmapLine, RowLine, PatternLine, TaskLine, EndLine, OrderLine, NumbersLine, ReportLine, CallLine, LockLine, UnlockLine, HoldLine, ReleaseLine}
+use Rattle.lw_grammar.specs.Statements.{Statement, LayersLine, ScreenLine, GlyphLine, BitmapLine, RowLine, PatternLine, TaskLine, EndLine, OrderLine, NumbersLine, ReportLine, CallLine, LockLine, UnlockLine, HoldLine, ReleaseLine, NameSeen, PairMade}
 use Rattle.lw_grammar.specs.Told.{told}
 use Rattle.lw_grammar.specs.Script.{Setting}
 use Rattle.lw_statements.specs.declared.section.Section.{Section}
@@ -19,7 +19,7 @@ leaves_assets (RowLine bytes) = false
 leaves_assets (PatternLine name words) = false
 leaves_assets f = true
 
--- the line begins or ends no task or group, and is no call
+-- the line begins or ends no task or group, is no call, and tells of no name and no window
 abbrev pub leaves_tasks : Statement → Bool
 leaves_tasks (TaskLine name) = false
 leaves_tasks (CallLine layers act) = false
@@ -27,6 +27,8 @@ leaves_tasks (LockLine name) = false
 leaves_tasks (UnlockLine name) = false
 leaves_tasks HoldLine = false
 leaves_tasks ReleaseLine = false
+leaves_tasks (NameSeen name) = false
+leaves_tasks (PairMade outer inner) = false
 leaves_tasks f = true
 
 -- the line tells no version, is no screen, no numbers, and begins or ends no task, order or report
@@ -72,10 +74,14 @@ tasks_pass t above (LockLine name) e k = absurd (false≢true e)
 tasks_pass t above (UnlockLine name) e k = absurd (false≢true e)
 tasks_pass t above HoldLine e k = absurd (false≢true e)
 tasks_pass t above ReleaseLine e k = absurd (false≢true e)
+tasks_pass t above (NameSeen name) e k = absurd (false≢true e)
+tasks_pass t above (PairMade outer inner) e k = absurd (false≢true e)
 tasks_pass t above f e k =
     record {
       tasks = k.tasks;
       names = k.names;
+      seen = k.seen;
+      pairs = k.pairs;
       supers = k.supers;
       used = k.used;
       group = k.group;

@@ -1,5 +1,5 @@
 -- For private contracts.
--- An area that was read, with its rectangles, and what a line adds that was read.
+-- An area that was read, with its rectangles, and what a line adds that was read, an area or not.
 use Rattle.std.specs.Prelude.{◌≡◌, ℕ, ◌+◌, ◌==◌, true, false, if◌then◌else◌, List, [], ◌∷◌, ◌++◌, map, Option, option_map, Result, Ok, Err, Vec, Bool}
 use Rattle.std.specs.declared.alloc.Global.{Global}
 use Rattle.lw_area.specs.declared.point.Point.{Point}
@@ -19,8 +19,9 @@ use Rattle.lw_words.specs.Stops.{Tells}
 use Rattle.lw_statements.specs.declared.statement.AskedPolygon.{AskedPolygon}
 use Rattle.lw_statements.specs.StatementMeaning.{point_meaning, statement_meaning}
 use Rattle.lw_script.specs.declared.reading.ReadLine.{ReadLine}
-use Rattle.lw_script.specs.declared.reading.ReadLine.TheVariants.{Statement as StatementRead, Area as AreaRead}
+use Rattle.lw_script.specs.declared.reading.ReadLine.TheVariants.{Statement as StatementRead, Area as AreaRead, Gzz as GzzRead}
 use Rattle.lw_script.specs.declared.state.Reader.{Reader}
+use Rattle.lw_script.specs.GzzRead.{opened_lines}
 use Rattle.lw_script.specs.Represents.{Represents}
 use denote.Ref.{Bor}
 
@@ -72,6 +73,7 @@ locked_fills layer rects = LockLine layer ∷ fill_lines layer rects ++ UnlockLi
 abbrev pub lines_of : Told → ReadLine → List Statement
 lines_of t (StatementRead f) = statement_meaning f ∷ []
 lines_of t (AreaRead layer rects) = area_lines t.group layer.now rects.items
+lines_of t (GzzRead statements opened) = map statement_meaning statements.items ++ opened_lines opened
 
 -- What reading a line answers: a line that stands for the same.
 abbrev pub ReadsBelow : Told → Result ReadLine Stop → Result Line Reason → Type 0

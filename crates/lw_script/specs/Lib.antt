@@ -2,6 +2,7 @@ pub mod Answers
 pub mod AreasRead
 pub mod CallParts
 pub mod Differing
+pub mod GzzRead
 pub mod NextLine
 pub mod OrderAnswers
 pub mod OrderReading

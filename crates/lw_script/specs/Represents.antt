@@ -14,6 +14,7 @@ use Rattle.lw_script.specs.declared.state.Reader.{Reader}
 use Rattle.lw_words.specs.Cuts.{targets}
 use Rattle.lw_statements.specs.GroupMeaning.{group_meaning}
 use Rattle.lw_statements.specs.SectionMeaning.{section_meaning}
+use Rattle.lw_script.specs.ReaderKnows.{pair_meaning}
 
 -- the nearest bitmap, where further rows stand after those that were read; none where no row of it is due
 abbrev pub unfinished : AssetsRead → List ℕ → List Bitmap
@@ -41,6 +42,8 @@ pub record AssetsRepresent (a : AssetsRead) (above : List Statement) : Type 0 wh
 pub record TasksRepresent (t : TasksRead) (above : List Statement) : Type 0 where
   pub tasks : targets t.task_names.keys ≡ (told above).tasks
   pub names : targets t.layer_names.keys ≡ (told above).names
+  pub seen : targets t.seen.keys ≡ (told above).seen
+  pub pairs : map pair_meaning t.pairs.items ≡ (told above).pairs
   pub supers : t.supers ≡ (told above).supers
   pub used : (n : ℕ) → list_any (λ m. n == m) t.used.keys ≡ (told above).used n
   pub group : option_map group_meaning t.group ≡ (told above).group

@@ -2,7 +2,7 @@
 ghost use Rattle.std.specs.Prelude.{◌≡◌, ◌≤◌, ◌++◌, pos, unsigned_abs, IsTrue, OnOk, List, ◌∷◌, length, map};
 ghost use Rattle.std.specs.List.{list_all};
 ghost use Rattle.lw_region.specs.Rectangle.{within};
-ghost use Rattle.lw_grammar.specs.Statements.{Statement as StatementValue, ScreenLine, GlyphLine, BitmapLine, RowLine, PatternLine, TaskLine, NumbersLine, CallLine, LockLine, UnlockLine, HoldLine, ReleaseLine};
+ghost use Rattle.lw_grammar.specs.Statements.{Statement as StatementValue, ScreenLine, GlyphLine, BitmapLine, RowLine, PatternLine, TaskLine, NumbersLine, CallLine, LockLine, UnlockLine, HoldLine, ReleaseLine, NameSeen, PairMade};
 ghost use Rattle.lw_words.specs.Digits.{decoded};
 ghost use Rattle.lw_grammar.specs.Script.{Setting};
 ghost use Rattle.lw_words.specs.Cuts.{targets};
@@ -10,7 +10,7 @@ ghost use Rattle.lw_statements.specs.StatementMeaning.{statement_meaning, act_me
 ghost use Rattle.lw_script.specs.CallParts.{bitmap_place};
 ghost use Rattle.lw_script.specs.Represents.{Represents, CanAdd};
 
-use crate::state::{Reader, place_of_name};
+use crate::state::{NamedPair, Reader, place_of_name};
 use lw_area::Pattern;
 use lw_statements::{Act, Layers, Section, Statement, count, version_at_screen};
 use lw_words::Digits;
@@ -119,6 +119,22 @@ impl<'a> Reader<'a> {
             → OnOk result (Represents s self.new (ReleaseLine ∷ above)) }
     {
         self.tasks.add_release()
+    }
+
+    /// Adds a name that stands on a line without a call.
+    pub(crate) fn add_seen(&mut self, name: &'a [u8]) -> Result<(), AllocError>
+        ensures { (s : Setting) (above : List StatementValue) → Represents s self.old above
+            → OnOk result (Represents s self.new (NameSeen name.entry.now ∷ above)) }
+    {
+        self.tasks.add_seen(name)
+    }
+
+    /// Adds a window of two layers.
+    pub(crate) fn add_pair(&mut self, pair: &NamedPair<'a>) -> Result<(), AllocError>
+        ensures { (s : Setting) (above : List StatementValue) → Represents s self.old above
+            → OnOk result (Represents s self.new (PairMade pair.now.outer.now pair.now.inner.now ∷ above)) }
+    {
+        self.tasks.add_pair(pair)
     }
 
     /// Adds the beginning of a task.

@@ -229,7 +229,7 @@ impl<'a> Reader<'a> {
             → OnOk result (Represents s self.new (added (area_lines (told above).group layer.entry.now rects.now) above)) }
     {
         if rects.is_empty() {
-            return Ok(());
+            return self.add_seen(layer);
         }
         if self.tasks.group.is_some() {
             return self.add_fills(alloc, layer, rects);

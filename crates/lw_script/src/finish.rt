@@ -1,17 +1,19 @@
 //! What a script gives that was read to its end.
-ghost use Rattle.std.specs.Prelude.{◌≡◌, ℕ, ◌<◌, IfOk, IsTrue, List, [], map, get_or};
+ghost use Rattle.std.specs.Prelude.{◌≡◌, ℕ, ◌<◌, ◌≤◌, IfOk, length, IsTrue, List, [], map, get_or};
 ghost use Rattle.std.specs.List.{range_with_len};
 ghost use Rattle.lw_grammar.specs.Statements.{Statement as StatementValue};
 ghost use Rattle.lw_grammar.specs.Told.{told, plan_of};
 ghost use Rattle.lw_grammar.specs.Script.{Setting, Reached, may_end, input_from};
 ghost use Rattle.lw_words.specs.Cuts.{targets};
 ghost use Rattle.lw_statements.specs.SectionMeaning.{section_meaning};
+ghost use Rattle.lw_script.specs.ReaderKnows.{placed};
 ghost use Rattle.lw_script.specs.Represents.{Represents, HasRead};
 ghost use Rattle.lw_script.specs.Answers.{input_meaning, Gives, ended_with};
 
 use crate::input::{Input, ScriptStop};
-use crate::state::{AssetsRead, Reader, TasksRead};
-use lw_calls::{Assets, OrderList, Plan, PlanParts, Sizes, Text};
+use crate::state::{AssetsRead, NamedPair, Reader, TasksRead, place_of_name};
+use indexmap::IndexSet;
+use lw_calls::{Assets, OrderList, Pair, Plan, PlanParts, Sizes, Text};
 use lw_grammar::Reason;
 use lw_planes::Planes;
 use std::alloc::{AllocError, Global};
@@ -25,6 +27,32 @@ fn texts_of(alloc: Global, names: &[&[u8]]) -> Result<Vec<Text>, AllocError>
         texts.push(Text::new(Vec::from_slice(alloc, name)?))?;
     }
     Ok(texts)
+}
+
+/// A window of two layers by the numbers of its names.
+fn pair_among<'a>(names: &IndexSet<&'a [u8]>, pair: &NamedPair<'a>) -> Pair
+    requires { length names.now.keys ≤ 1024 }
+    ensures { result ≡ placed (targets names.now.keys) pair.now }
+{
+    Pair {
+        outer: place_of_name(names, &pair.outer) as u32,
+        inner: place_of_name(names, &pair.inner) as u32,
+    }
+}
+
+fn pairs_among<'a>(
+    alloc: Global,
+    names: &IndexSet<&'a [u8]>,
+    pairs: &[NamedPair<'a>],
+) -> Result<Vec<Pair>, AllocError>
+    requires { length names.now.keys ≤ 1024 }
+    ensures { IfOk result (λ slots. slots.items ≡ map (placed (targets names.now.keys)) pairs.now) }
+{
+    let mut slots = Vec::with_capacity(alloc, pairs.len())?;
+    for pair in pairs {
+        slots.push(pair_among(names, pair))?;
+    }
+    Ok(slots)
 }
 
 /// What a script hands in that has these glyphs and bitmaps.
@@ -66,6 +94,7 @@ impl<'a> Reader<'a> {
         let slot_names = texts_of(alloc, self.tasks.layer_names.as_slice())?;
         let task_names = texts_of(alloc, self.tasks.task_names.as_slice())?;
         let bitmap_names = texts_of(alloc, self.assets.names.as_slice())?;
+        let pairs = pairs_among(alloc, &self.tasks.layer_names, self.tasks.pairs.as_slice())?;
         let Reader {
             assets,
             tasks,
@@ -85,7 +114,7 @@ impl<'a> Reader<'a> {
             bitmap_names,
             calls,
             groups,
-            pairs: Vec::new(alloc),
+            pairs,
             assets: assets_of(glyphs, bitmaps),
         });
         Ok(Input {

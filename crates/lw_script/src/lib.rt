@@ -11,6 +11,7 @@ mod finish;
 mod input;
 mod order;
 mod order_stop;
+mod pairs;
 mod reading;
 mod script;
 mod state;

@@ -1,25 +1,33 @@
 //! What a line says below those read so far.
 ghost use Rattle.std.specs.Prelude.{◌≡◌, ◌≤◌, List, length};
-ghost use Rattle.lw_grammar.specs.Statements.{Statement as StatementValue, StatementLine};
+ghost use Rattle.lw_grammar.specs.Statements.{Statement as StatementValue, StatementLine, GzzLine};
 ghost use Rattle.lw_grammar.specs.Told.{told};
 ghost use Rattle.lw_grammar.specs.Script.{Setting, line_read, line_of_words};
 ghost use Rattle.lw_words.specs.Cuts.{targets};
 ghost use Rattle.lw_script.specs.ReaderKnows.{known, setting_of};
-ghost use Rattle.lw_statements.specs.StatementMeaning.{statement_meaning, line_meaning};
+ghost use Rattle.lw_statements.specs.StatementMeaning.{statement_meaning, gzz_meaning, line_meaning};
 ghost use Rattle.lw_script.specs.AreasRead.{ReadsBelow, area_meaning, if_passed};
 ghost use Rattle.lw_script.specs.Represents.{Represents};
 
-use crate::state::Reader;
+use crate::state::{NamedPair, Reader};
 use lw_region::Rect;
-use lw_statements::{AskedPolygon, Line, Statement, words_line};
+use lw_statements::{AskedPolygon, GzzAct, Line, Statement, words_line};
 use lw_words::{Stop, Token, line_words};
 use std::alloc::Global;
 
-/// What a line says that was read: a statement, or an area by its layer and its rectangles.
+/// What a line says that was read: a statement; an area by its layer and its rectangles; or what is done with a window of two
+/// layers, by its statements and the window that it opens.
 #[derive(Drop)]
 pub enum ReadLine<'a> {
     Statement(Statement<'a>),
-    Area { layer: &'a [u8], rects: Vec<Rect> },
+    Area {
+        layer: &'a [u8],
+        rects: Vec<Rect>,
+    },
+    Gzz {
+        statements: Vec<Statement<'a>>,
+        opened: Option<NamedPair<'a>>,
+    },
 }
 
 impl<'a> Reader<'a> {
@@ -49,6 +57,23 @@ impl<'a> Reader<'a> {
         }
     }
 
+    /// What a line does with the window of two layers of which this is the outer one, if it passes its tests, or its first
+    /// reason.
+    fn tested_gzz(
+        &self,
+        alloc: Global,
+        outer: &'a [u8],
+        act: GzzAct<'a>,
+    ) -> Result<ReadLine<'a>, Stop>
+        ensures { ReadsBelow (known self.now) result
+            (if_passed (setting_of self.now) (known self.now) (GzzLine outer.entry.now (gzz_meaning act.entry))) }
+    {
+        match self.gzz_tested(&outer, &act) {
+            Err(reason) => Err(Stop::Refused(reason)),
+            Ok(()) => self.gzz_read(alloc, outer, &act),
+        }
+    }
+
     /// What a line says, if it passes its tests, or its first reason.
     fn tested_line(&self, alloc: Global, line: Line<'a>) -> Result<ReadLine<'a>, Stop>
         requires { length self.now.assets.patterns.items ≡ length self.now.assets.pattern_names.keys }
@@ -58,6 +83,7 @@ impl<'a> Reader<'a> {
         match line {
             Line::Statement(statement) => self.tested_statement(statement),
             Line::Area(area) => self.tested_area(alloc, area),
+            Line::Gzz { outer, act } => self.tested_gzz(alloc, outer, act),
         }
     }
 

@@ -35,11 +35,22 @@ pub struct AssetsRead<'a> {
     pub patterns: Vec<Pattern>,
 }
 
+/// A window of two layers, by the names of the outer and of the inner one.
+#[derive(Clone, Copy)]
+pub struct NamedPair<'a> {
+    pub outer: &'a [u8],
+    pub inner: &'a [u8],
+}
+
 /// The tasks, calls and groups that were read. Names are numbered in the order of their first appearance.
 #[derive(Drop)]
 pub struct TasksRead<'a> {
     pub task_names: IndexSet<&'a [u8]>,
     pub layer_names: IndexSet<&'a [u8]>,
+    /// The names that stand on a line without a call.
+    pub seen: IndexSet<&'a [u8]>,
+    /// The windows of two layers.
+    pub pairs: Vec<NamedPair<'a>>,
     /// How many lines asked for a super-bitmap layer.
     pub supers: u32,
     /// The hooks that lines named.
@@ -105,6 +116,8 @@ impl<'a> Reader<'a> {
             tasks: TasksRead {
                 task_names: IndexSet::new(alloc),
                 layer_names: IndexSet::new(alloc),
+                seen: IndexSet::new(alloc),
+                pairs: Vec::new(alloc),
                 supers: 0,
                 used: IndexSet::new(alloc),
                 group: None,

@@ -25,6 +25,9 @@ impl<'a> Reader<'a> {
         match read {
             ReadLine::Statement(statement) => self.add(alloc, statement),
             ReadLine::Area { layer, rects } => self.add_area(alloc, *layer, rects.as_slice()),
+            ReadLine::Gzz { statements, opened } => {
+                self.add_gzz(alloc, statements.as_slice(), opened)
+            }
         }
     }
 

@@ -1,7 +1,7 @@
 //! Tasks, groups and calls added to those that were read.
 ghost use Rattle.std.specs.Prelude.{Bool, ◌≡◌, ℕ, ◌+◌, ◌<◌, ◌≤◌, false, if◌then◌else◌, IsTrue, IfOk, OnOk, List, ◌∷◌, length, map, option_map, bytes_eq};
 ghost use Rattle.std.specs.List.{list_any};
-ghost use Rattle.lw_grammar.specs.Statements.{Statement as StatementValue, TaskLine, LockLine, UnlockLine, HoldLine, ReleaseLine, CallLine, layers_of, is_hook_number, is_act_in_range};
+ghost use Rattle.lw_grammar.specs.Statements.{Statement as StatementValue, TaskLine, LockLine, UnlockLine, HoldLine, ReleaseLine, NameSeen, PairMade, CallLine, layers_of, is_hook_number, is_act_in_range};
 ghost use Rattle.lw_grammar.specs.Told.{and_name, and_names, place_among, onto_last, makes_super, and_hook, left_open_by, told};
 ghost use Rattle.lw_grammar.specs.Script.{is_ending};
 ghost use Rattle.lw_words.specs.Cuts.{targets};
@@ -11,7 +11,7 @@ ghost use Rattle.lw_statements.specs.GroupMeaning.{group_meaning};
 ghost use Rattle.lw_script.specs.CallParts.{first_place, second_place, AreNoted};
 ghost use Rattle.lw_script.specs.Represents.{TasksRepresent};
 
-use crate::state::TasksRead;
+use crate::state::{NamedPair, TasksRead};
 use indexmap::IndexSet;
 use lw_calls::{Group, Hold};
 use lw_grammar::BareVerb;
@@ -188,6 +188,24 @@ impl<'a> TasksRead<'a> {
         };
         put_last(&mut self.groups, group)?;
         self.group = None;
+        Ok(())
+    }
+
+    /// Adds a name that stands on a line without a call.
+    pub(crate) fn add_seen(&mut self, name: &'a [u8]) -> Result<(), AllocError>
+        ensures { (above : List StatementValue) → TasksRepresent self.old above
+            → OnOk result (TasksRepresent self.new (NameSeen name.entry.now ∷ above)) }
+    {
+        self.seen.insert(name)?;
+        Ok(())
+    }
+
+    /// Adds a window of two layers.
+    pub(crate) fn add_pair(&mut self, pair: &NamedPair<'a>) -> Result<(), AllocError>
+        ensures { (above : List StatementValue) → TasksRepresent self.old above
+            → OnOk result (TasksRepresent self.new (PairMade pair.now.outer.now pair.now.inner.now ∷ above)) }
+    {
+        self.pairs.push(*pair)?;
         Ok(())
     }
 

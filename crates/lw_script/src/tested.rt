@@ -1,9 +1,9 @@
 //! The tests of a line's statement by what was read so far.
 ghost use Rattle.std.specs.Prelude.{◌≡◌, nat_le, length, IsTrue};
 ghost use Rattle.lw_calls.specs.Limits.{limits_of};
-ghost use Rattle.lw_grammar.specs.Statements.{is_line_in_range};
+ghost use Rattle.lw_grammar.specs.Statements.{StatementLine, is_line_in_range};
 ghost use Rattle.lw_grammar.specs.Told.{and_name, hook_on, told_with};
-ghost use Rattle.lw_grammar.specs.Script.{lacks_name, gives_again, group_has_calls, fits_group, super_limit, are_few, is_no_hook, is_used, has_padding, statement_tested};
+ghost use Rattle.lw_grammar.specs.Script.{lacks_name, gives_again, group_has_calls, fits_group, super_limit, are_few, is_no_hook, is_used, has_padding, line_tested};
 ghost use Rattle.lw_statements.specs.StatementMeaning.{statement_meaning};
 ghost use Rattle.lw_script.specs.ReaderKnows.{known, setting_of};
 
@@ -112,7 +112,7 @@ impl<'a> Reader<'a> {
     }
 
     /// How many layer names there are with these two.
-    fn with_two(&self, first: &&'a [u8], second: &&'a [u8]) -> usize
+    pub(crate) fn with_two(&self, first: &&'a [u8], second: &&'a [u8]) -> usize
         ensures { result ≡ length (and_name (and_name (known self.now).names first.now.now) second.now.now) }
     {
         if has_name(&self.tasks.layer_names, first) {
@@ -211,7 +211,7 @@ impl<'a> Reader<'a> {
 
     /// The first reason for which a line with this statement is bad, if it is bad.
     pub fn tested(&self, statement: &Statement<'a>) -> Result<(), Reason>
-        ensures { result ≡ statement_tested (setting_of self.now) (known self.now) (statement_meaning statement.now) }
+        ensures { result ≡ line_tested (setting_of self.now) (known self.now) (StatementLine (statement_meaning statement.now)) }
     {
         if !statement.is_in_range(self.version) {
             return Err(Reason::Range);
@@ -221,6 +221,9 @@ impl<'a> Reader<'a> {
         }
         if self.gives_again(statement) {
             return Err(Reason::DoubleName);
+        }
+        if self.parts_pair(statement) {
+            return Err(Reason::Gzz);
         }
         if !self.fits_group(statement) {
             return Err(Reason::Group);

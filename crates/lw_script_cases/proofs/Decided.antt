@@ -1,12 +1,13 @@
 -- Reading a script that is written out decides it: the check computes what it reads.
-use Rattle.std.proofs.Common.{ℕ, List, [], ◌∷◌, length, min, Result, Ok, Err, MatchResult}
+use Rattle.std.proofs.Common.{ℕ, List, [], ◌∷◌, ◌++◌, codes, length, min, Result, Ok, Err, MatchResult}
 use Rattle.lw_grammar.specs.Told.{told}
 use Rattle.lw_grammar.specs.Script.{Setting, Reached, at_the_top, lines_read, input_from, SpellsInput, IsFirstBadIn}
 use Rattle.lw_grammar.specs.declared.reason.Reason.{Reason}
 use Rattle.lw_grammar.specs.Lines.{lines}
 use Rattle.lw_grammar.proofs.ScriptOutcome.{reads_decide}
-use Rattle.lw_script_cases.specs.WholeScripts.{IsSpelled, alone}
+use Rattle.lw_script_cases.specs.WholeScripts.{IsSpelled, alone, script}
 use Rattle.lw_script_cases.specs.Refused.{Refused}
+use Rattle.lw_script_cases.specs.GzzScripts.{paired}
 
 -- the bytes spell an input, or have a first bad line, as what is read says
 abbrev Decides : Setting → List ℕ → Result Reached (ℕ × Reason) → Type 0
@@ -27,3 +28,15 @@ AreDecided (r ∷ rs) = Decides (alone 0) r.bytes (lines_read (alone 0) at_the_t
 pub all_decided : (rs : List Refused) → AreDecided rs
 all_decided [] = tt
 all_decided (r ∷ rs) = (decided (alone 0) r.bytes, all_decided rs)
+
+-- the same of these lines below a window of two layers
+abbrev pub allowed_bytes : List ℕ → List ℕ
+allowed_bytes ls = paired ++ ls ++ script (codes "end/")
+
+abbrev AreRead : List (List ℕ) → Type 0
+AreRead [] = Unit {0}
+AreRead (ls ∷ rest) = Decides (alone 0) (allowed_bytes ls) (lines_read (alone 0) at_the_top (lines (allowed_bytes ls))) × AreRead rest
+
+pub all_allowed : (rest : List (List ℕ)) → AreRead rest
+all_allowed [] = tt
+all_allowed (ls ∷ rest) = (decided (alone 0) (allowed_bytes ls), all_allowed rest)

@@ -5,3 +5,4 @@ pub mod Refused
 pub mod SpelledPlans
 pub mod VersionLines
 pub mod AreaScripts
+pub mod GzzScripts

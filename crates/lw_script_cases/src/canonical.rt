@@ -9,6 +9,7 @@ ghost use Rattle.lw_script_cases.specs.WholeScripts.{first_fill_script};
 ghost use Rattle.lw_script_cases.specs.CanonicalTexts.{three_tasks, three_tasks_text, all_asked, all_asked_text, further_calls, further_calls_text};
 ghost use Rattle.lw_script_cases.specs.VersionLines.{hook_replaced_script};
 ghost use Rattle.lw_script_cases.specs.AreaScripts.{triangle, triangle_text};
+ghost use Rattle.lw_script_cases.specs.GzzScripts.{filled, filled_script, boxed, boxed_script, all_lines, all_lines_script, beside_pairs, beside_pairs_text};
 
 /// The first fill's canonical text is its script.
 pub fn first_fill_is_canonical()
@@ -38,4 +39,13 @@ pub fn version_2_stands_first()
 /// The canonical text of a script with an area has its fills.
 pub fn fills_stand_for_areas()
     ensures { canonical_text triangle ≡ triangle_text }
+{}
+
+/// The canonical text of a script with windows of two layers is that script; a group that stands for no word of one of them, as
+/// one of the inner layer first or with a call more, has its calls.
+pub fn windows_of_two_have_lines()
+    ensures filled { canonical_text filled ≡ filled_script }
+    ensures boxed { canonical_text boxed ≡ boxed_script }
+    ensures all { canonical_text all_lines ≡ all_lines_script }
+    ensures beside { canonical_text beside_pairs ≡ beside_pairs_text }
 {}

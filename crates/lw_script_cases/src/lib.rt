@@ -5,6 +5,8 @@
 pub mod area_reports;
 pub mod area_scripts;
 pub mod canonical;
+pub mod gzz_reports;
+pub mod gzz_scripts;
 pub mod lines_below;
 pub mod refused;
 pub mod scripts;

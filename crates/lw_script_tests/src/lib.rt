@@ -6,6 +6,8 @@ mod tests_areas;
 #[cfg(test)]
 mod tests_counts;
 #[cfg(test)]
+mod tests_gzz;
+#[cfg(test)]
 mod tests_order;
 #[cfg(test)]
 mod tests_refused;

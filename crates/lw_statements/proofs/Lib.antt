@@ -3,3 +3,4 @@ mod AreaPoints
 mod Classes
 mod PatternWords
 mod RectRanges
+mod GzzBoxes

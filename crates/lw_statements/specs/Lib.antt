@@ -6,3 +6,4 @@ pub mod LineReading
 pub mod OwnBits
 pub mod SectionMeaning
 pub mod StatementMeaning
+pub mod GzzParts

@@ -3,7 +3,7 @@ use Rattle.std.specs.Prelude.{List, [], ◌∷◌, ℕ, map, option_map}
 use Rattle.lw_region.specs.Rectangle.{Rectangle}
 use Rattle.lw_area.specs.declared.point.Point.{Point}
 use Rattle.lw_calls.specs.declared.area.Area.{Area}
-use Rattle.lw_grammar.specs.Statements.{NewLayer as NewLayerMeaning, Act as ActMeaning, BareAct, NumberAct, PairAct, TextAct, RegRectAct, RegPairAct, RegClearAct, CreateAct, OpenAct, InFrontAct, BoxAct, WhichAct, FillAct, ScrollRasterAct, PutAct, BlitAct, EndRefreshAct, Statement as Meaning, LayersLine, ScreenLine, GlyphLine, BitmapLine, RowLine, PatternLine, TaskLine, EndLine, OrderLine, NumbersLine, ReportLine, CallLine, LockLine, UnlockLine, HoldLine, ReleaseLine, Line as LineMeaning, StatementLine, AreaLine, four, point}
+use Rattle.lw_grammar.specs.Statements.{NewLayer as NewLayerMeaning, Act as ActMeaning, BareAct, NumberAct, PairAct, TextAct, RegRectAct, RegPairAct, RegClearAct, CreateAct, OpenAct, InFrontAct, BoxAct, WhichAct, FillAct, ScrollRasterAct, PutAct, BlitAct, EndRefreshAct, Statement as Meaning, LayersLine, ScreenLine, GlyphLine, BitmapLine, RowLine, PatternLine, TaskLine, EndLine, OrderLine, NumbersLine, ReportLine, CallLine, LockLine, UnlockLine, HoldLine, ReleaseLine, GzzAct as GzzMeaning, OpenGzz, BoxGzz, FrontGzz, BehindGzz, InFrontGzz, CloseGzz, Line as LineMeaning, StatementLine, AreaLine, GzzLine, four, point}
 use Rattle.lw_statements.specs.declared.statement.Corners.{Corners}
 use Rattle.lw_statements.specs.declared.statement.NewLayer.{NewLayer}
 use Rattle.lw_statements.specs.declared.statement.AskedArea.{AskedArea}
@@ -14,8 +14,10 @@ use Rattle.lw_statements.specs.declared.statement.Layers.TheVariants.{Nothing, O
 use Rattle.lw_statements.specs.declared.statement.Statement.{Statement}
 use Rattle.lw_statements.specs.declared.statement.Statement.TheVariants.{Layers as LayersOf, Screen, Glyph, Bitmap, Row, Pattern, Task, End, Order, Numbers, Report, Call, Lock, Unlock, Hold, Release}
 use Rattle.lw_statements.specs.declared.statement.AskedPoint.{AskedPoint}
+use Rattle.lw_statements.specs.declared.statement.GzzAct.{GzzAct}
+use Rattle.lw_statements.specs.declared.statement.GzzAct.TheVariants.{Open as OpenOf, Box as BoxOf, Front as FrontOf, Behind as BehindOf, InFront as InFrontOf, Close as CloseOf}
 use Rattle.lw_statements.specs.declared.statement.Line.{Line}
-use Rattle.lw_statements.specs.declared.statement.Line.TheVariants.{Statement as StatementOf, Area as AreaOf}
+use Rattle.lw_statements.specs.declared.statement.Line.TheVariants.{Statement as StatementOf, Area as AreaOf, Gzz as GzzOf}
 use Rattle.lw_words.specs.Digits.{decoded}
 
 -- the four numbers as bounds
@@ -86,7 +88,17 @@ statement_meaning Release = ReleaseLine
 abbrev pub point_meaning : AskedPoint → Point
 point_meaning p = point p.x p.y
 
--- a statement as it is, and an area by its names and points
+-- what is done with a window of two layers, by names and texts
+abbrev pub gzz_meaning : GzzAct → GzzMeaning
+gzz_meaning (OpenOf inner kind place c classes title) = OpenGzz inner.now kind place (corners_meaning c) classes title.now
+gzz_meaning (BoxOf c) = BoxGzz (corners_meaning c)
+gzz_meaning FrontOf = FrontGzz
+gzz_meaning BehindOf = BehindGzz
+gzz_meaning (InFrontOf other) = InFrontGzz other.now
+gzz_meaning CloseOf = CloseGzz
+
+-- a statement as it is, an area by its names and points, and what is done with a window of two layers by names
 abbrev pub line_meaning : Line → LineMeaning
 line_meaning (StatementOf f) = StatementLine (statement_meaning f)
 line_meaning (AreaOf a) = AreaLine a.layer.now (option_map (λ n. n.now) a.pattern) (map point_meaning a.points.items)
+line_meaning (GzzOf outer act) = GzzLine outer.now (gzz_meaning act)

@@ -6,10 +6,12 @@ mod acts;
 mod calls;
 mod converted;
 mod corners;
+mod gzz_calls;
 mod line_read;
 mod lines_area;
 mod lines_asked;
 mod lines_blit;
+mod lines_gzz;
 mod lines_layer;
 mod lines_parts;
 mod lines_verb;
@@ -19,9 +21,10 @@ mod statement;
 
 pub use acts::OpenGroup;
 pub use converted::count;
+pub use gzz_calls::gzz_statements;
 pub use line_read::words_line;
 pub use ranges::version_at_screen;
 pub use section::Section;
 pub use statement::{
-    Act, AskedArea, AskedPoint, AskedPolygon, Corners, Layers, Line, NewLayer, Statement,
+    Act, AskedArea, AskedPoint, AskedPolygon, Corners, GzzAct, Layers, Line, NewLayer, Statement,
 };

@@ -24,7 +24,7 @@ fn kind_of(word: &[u8]) -> Option<Kind>
     }
 }
 
-fn place_of(word: &[u8]) -> Option<Place>
+pub(crate) fn place_of(word: &[u8]) -> Option<Place>
     ensures { result ≡ place_of word.now }
 {
     if is_text(word, b"front") {
@@ -105,7 +105,7 @@ fn classes_of(letters: &[u8]) -> Option<u8>
 }
 
 /// The set of the optional words `ask SET`, or none, and what stands after them.
-fn asks_in<'a, 'b>(tokens: &'b [Token<'a>]) -> (u8, &'b [Token<'a>])
+pub(crate) fn asks_in<'a, 'b>(tokens: &'b [Token<'a>]) -> (u8, &'b [Token<'a>])
     ensures { (result.0, map token_meaning result.1.now) ≡ ask_option (map token_meaning tokens.now) }
 {
     match tokens {

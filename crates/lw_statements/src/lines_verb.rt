@@ -6,6 +6,7 @@ ghost use Rattle.lw_statements.specs.StatementMeaning.{statement_meaning, line_m
 use crate::lines_area::{area_line, area_pattern_line};
 use crate::lines_asked::{Request, new_layer_line};
 use crate::lines_blit::{blit_line, put_line};
+use crate::lines_gzz::gzz_line;
 use crate::lines_layer::{
     box_line, clear_line, endrefresh_line, fill_line, infront_line, layer_line, number_line,
     pair_line, rect_line, region_line, scrollraster_line, text_line, which_line,
@@ -43,7 +44,8 @@ fn part_line<'a>(
     }
 }
 
-/// The statement of a line with this verb, if the words after it make one. An area is none.
+/// The statement of a line with this verb, if the words after it make one. Neither an area nor what is done with a window of two
+/// layers is one.
 fn statement_by<'a>(
     alloc: Global,
     verb: Verb,
@@ -71,7 +73,7 @@ fn statement_by<'a>(
         Verb::Put => Ok(put_line(tokens)),
         Verb::Blit => Ok(blit_line(tokens)),
         Verb::EndRefresh => Ok(endrefresh_line(tokens)),
-        Verb::Area | Verb::AreaPattern => Ok(None),
+        Verb::Area | Verb::AreaPattern | Verb::Gzz(_) => Ok(None),
     }
 }
 
@@ -86,6 +88,7 @@ pub(crate) fn line_by<'a>(
     match verb {
         Verb::Area => area_line(alloc, tokens),
         Verb::AreaPattern => area_pattern_line(alloc, tokens),
+        Verb::Gzz(verb) => Ok(gzz_line(verb, tokens)),
         _ => match statement_by(alloc, verb, tokens)? {
             None => Ok(None),
             Some(statement) => Ok(Some(Line::Statement(statement))),

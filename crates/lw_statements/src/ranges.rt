@@ -1,12 +1,14 @@
-ghost use Rattle.std.specs.Prelude.{◌≡◌, map, pos};
+ghost use Rattle.std.specs.Prelude.{◌≡◌, true, ◌&&◌, ◌≤ℤ◌, ◌+ℤ◌, ◌-ℤ◌, map, pos};
 ghost use Rattle.std.specs.List.{list_all};
 ghost use Rattle.lw_region.specs.Rectangle.{within};
 ghost use Rattle.lw_area.specs.Polygons.{is_in_range};
 ghost use Rattle.lw_calls.specs.Limits.{is_coordinate, axis_fits, rect_fits, coordinates_fit as places_meant, is_extent};
-ghost use Rattle.lw_grammar.specs.Statements.{is_hook_number, is_own_size, is_new_layer_in_range, place_and_size_fit, is_area_in_range, greatest_number, is_act_in_range, version_at_screen, are_sizes_in_range, is_line_in_range};
-ghost use Rattle.lw_statements.specs.StatementMeaning.{corners_meaning, new_layer_meaning, area_meaning, act_meaning, statement_meaning, point_meaning};
+ghost use Rattle.lw_grammar.specs.Statements.{is_hook_number, is_own_size, is_new_layer_in_range, place_and_size_fit, is_area_in_range, greatest_number, is_act_in_range, version_at_screen, are_sizes_in_range, is_line_in_range, is_gzz_box, is_gzz_in_range};
+ghost use Rattle.lw_statements.specs.StatementMeaning.{corners_meaning, new_layer_meaning, area_meaning, act_meaning, statement_meaning, point_meaning, gzz_meaning};
 
-use crate::statement::{Act, AskedArea, AskedPoint, AskedPolygon, Corners, NewLayer, Statement};
+use crate::statement::{
+    Act, AskedArea, AskedPoint, AskedPolygon, Corners, GzzAct, NewLayer, Statement,
+};
 use lw_calls::{Kind, limits_of};
 use lw_grammar::NumberVerb;
 
@@ -227,5 +229,56 @@ impl AskedPolygon<'_> {
         ensures { result ≡ list_all is_in_range (map point_meaning self.now.points.items) }
     {
         are_in_range(self.points.as_slice())
+    }
+}
+
+/// The last column or row of a box, from a coordinate on and so many columns or rows long.
+#[tactic(auto, using(std::proofs::lemmas::Int::ints), unfolding(lw_region::specs::Rectangle::within))]
+fn last_of(first: i64, size: i64) -> i64
+    requires first { is_coordinate first ≡ true }
+    requires size { within (pos 1) size (pos 4294967295) ≡ true }
+    ensures { result ≡ (first +ℤ size) -ℤ pos 1 }
+{
+    first + size - 1
+}
+
+/// Whether along one axis the place and the size of a box are a coordinate, and a size from the least one to that of the screen, and
+/// the last column or row is a coordinate.
+#[tactic(auto, using(std::proofs::lemmas::Int::ints), unfolding(lw_region::specs::Rectangle::within))]
+fn lies_along(least: i64, first: i64, size: i64, most: u32) -> bool
+    requires least { pos 1 ≤ℤ least }
+    ensures { result ≡ (is_coordinate first && (within least size (pos most) && is_coordinate ((first +ℤ size) -ℤ pos 1))) }
+{
+    if !is_coordinate(first) {
+        return false;
+    }
+    if !is_between(least, size, i64::from(most)) {
+        return false;
+    }
+    is_coordinate(last_of(first, size))
+}
+
+impl Corners {
+    /// Whether they are a box that a window of two layers may have on a screen of this width and height.
+    #[tactic(auto, using(crate::proofs::GzzBoxes::box_by_axes))]
+    fn are_gzz_box(&self, width: u32, height: u32) -> bool
+        ensures { result ≡ is_gzz_box width height (corners_meaning self.now) }
+    {
+        let across = lies_along(9, self.x0, self.x1, width);
+        let down = lies_along(14, self.y0, self.y1, height);
+        across && down
+    }
+}
+
+impl GzzAct<'_> {
+    /// Whether its box, if it has one, is one that the window may have on a screen of this width and height.
+    pub fn is_in_range(&self, width: u32, height: u32) -> bool
+        ensures { result ≡ is_gzz_in_range width height (gzz_meaning self.now) }
+    {
+        match self {
+            GzzAct::Open { numbers, .. } => numbers.are_gzz_box(width, height),
+            GzzAct::Box(numbers) => numbers.are_gzz_box(width, height),
+            GzzAct::Front | GzzAct::Behind | GzzAct::InFront(_) | GzzAct::Close => true,
+        }
     }
 }

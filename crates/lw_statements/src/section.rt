@@ -92,7 +92,9 @@ pub fn is_known_in(version: u32, verb: Verb) -> bool
     match verb {
         Verb::Part(PartVerb::Layers) => version != 1,
         Verb::Number(NumberVerb::Hook) => version >= 2,
-        Verb::Part(PartVerb::Pattern) | Verb::Area | Verb::AreaPattern => version == 2,
+        Verb::Part(PartVerb::Pattern) | Verb::Area | Verb::AreaPattern | Verb::Gzz(_) => {
+            version == 2
+        }
         _ => true,
     }
 }

@@ -196,12 +196,36 @@ pub struct AskedPolygon<'a> {
     ghost most: { length points.items ≤ 32 },
 }
 
+/// What a line does with a window of two layers. Names and texts stand in the input, and boxes are in the line's own numbers: a
+/// place, a width and a height.
+#[derive(Clone, Copy)]
+pub enum GzzAct<'a> {
+    Open {
+        inner: &'a [u8],
+        /// That of the inner layer.
+        kind: Kind,
+        place: Place,
+        numbers: Corners,
+        /// The set of the classes of messages: class k is bit k.
+        classes: u8,
+        title: &'a [u8],
+    },
+    Box(Corners),
+    Front,
+    Behind,
+    /// In front of this layer.
+    InFront(&'a [u8]),
+    Close,
+}
+
 /// What a line of a script says, if it isn't skipped.
 #[derive(Drop)]
 pub enum Line<'a> {
     Statement(Statement<'a>),
     /// An area, which stands for several statements.
     Area(AskedPolygon<'a>),
+    /// What is done with the window of two layers with this outer one, which stands for several statements too.
+    Gzz { outer: &'a [u8], act: GzzAct<'a> },
 }
 
 impl<'a> Statement<'a> {

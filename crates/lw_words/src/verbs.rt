@@ -3,7 +3,7 @@ ghost use Rattle.lw_grammar.specs.Verbs.{verb_word, verb_in, verb_of};
 
 use crate::cut::is_text;
 use lw_calls::{PairOp, RectOp};
-use lw_grammar::{BareVerb, NumberVerb, PairVerb, PartVerb, TextVerb, Verb};
+use lw_grammar::{BareVerb, GzzVerb, NumberVerb, PairVerb, PartVerb, TextVerb, Verb};
 
 /// The word of a verb.
 fn verb_word(verb: Verb) -> &'static [u8]
@@ -66,6 +66,12 @@ fn verb_word(verb: Verb) -> &'static [u8]
         Verb::EndRefresh => b"endrefresh",
         Verb::Area => b"area",
         Verb::AreaPattern => b"areapat",
+        Verb::Gzz(GzzVerb::Open) => b"gopen",
+        Verb::Gzz(GzzVerb::Box) => b"gbox",
+        Verb::Gzz(GzzVerb::Front) => b"gfront",
+        Verb::Gzz(GzzVerb::Behind) => b"gbehind",
+        Verb::Gzz(GzzVerb::InFront) => b"ginfront",
+        Verb::Gzz(GzzVerb::Close) => b"gclose",
     }
 }
 
@@ -117,7 +123,16 @@ fn verbs_with(first: u8) -> &'static [Verb]
         b'd' => &[Verb::Pair(PairVerb::Draw)],
         b'e' => &[Verb::Part(PartVerb::End), Verb::EndRefresh],
         b'f' => &[Verb::Bare(BareVerb::Front), Verb::Fill],
-        b'g' => &[Verb::Part(PartVerb::Glyph), Verb::Bare(BareVerb::GetMsg)],
+        b'g' => &[
+            Verb::Part(PartVerb::Glyph),
+            Verb::Bare(BareVerb::GetMsg),
+            Verb::Gzz(GzzVerb::Open),
+            Verb::Gzz(GzzVerb::Box),
+            Verb::Gzz(GzzVerb::Front),
+            Verb::Gzz(GzzVerb::Behind),
+            Verb::Gzz(GzzVerb::InFront),
+            Verb::Gzz(GzzVerb::Close),
+        ],
         b'h' => &[Verb::Part(PartVerb::Hold), Verb::Number(NumberVerb::Hook)],
         b'i' => &[Verb::InFront],
         b'l' => &[Verb::Part(PartVerb::Layers), Verb::Part(PartVerb::Lock)],

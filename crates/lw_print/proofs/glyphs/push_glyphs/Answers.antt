@@ -1,5 +1,6 @@
 use Rattle.std.proofs.Common.{◌≡◌, ◌+◌, [], refl, arith}
 use Rattle.std.specs.List.{slice_index_or}
+use Rattle.lw_canonical.specs.Spelling.{spelled}
 use Rattle.lw_canonical.specs.Canonical.{lines_of_glyph}
 use Rattle.lw_text_output.proofs.Pieces.{piece_written}
 use Rattle.lw_print.specs.Behind.{text_of_lines}
@@ -14,4 +15,4 @@ loop-index-preserved c =
 pub returns : goal.returns
 returns c =
     let end : c.loop-index.index ≡ 95 = omega (arith, c.loop-index-test.false, c.loop-index.auto.index-end) in
-    pieces_text (λ i. lines_of_glyph (32 + i) (slice_index_or c.args.glyphs.now i [])) _ 95 _ _ end c.loop-index.invariant
+    pieces_text spelled (λ i. lines_of_glyph (32 + i) (slice_index_or c.args.glyphs.now i [])) _ 95 _ _ end c.loop-index.invariant

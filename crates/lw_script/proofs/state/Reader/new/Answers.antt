@@ -29,13 +29,15 @@ returns c =
       tasks = record {
         tasks = ap targets c.new-6.ensures.empty;
         names = ap targets c.new-7.ensures.empty;
+        seen = ap targets c.new-8.ensures.empty;
+        pairs = rw c.new-9.ensures.items refl;
         supers = refl;
-        used = λ n. rw c.new-8.ensures.empty refl;
+        used = λ n. rw c.new-10.ensures.empty refl;
         group = refl;
         began = refl;
         so_far = refl;
-        calls = rw c.new-9.ensures.items refl;
-        groups = rw c.new-10.ensures.items refl;
+        calls = rw c.new-11.ensures.items refl;
+        groups = rw c.new-12.ensures.items refl;
       };
-      order = c.new-11.ensures.items;
+      order = c.new-13.ensures.items;
     }

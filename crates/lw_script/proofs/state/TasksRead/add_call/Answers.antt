@@ -23,6 +23,8 @@ returns c = λ above h s.
     record {
       tasks = s.tasks;
       names = c.in_ok-slot.ensures.names ∙ ap (λ ns. and_names ns ls) s.names;
+      seen = s.seen;
+      pairs = s.pairs;
       supers = c.supers_with-self.ensures ls ∙ ap (λ n. cond (makes_super (CallLine ls act)) 1 0 + n) s.supers;
       used = subst P (c.hook.ensures ls) (c.in_ok-note_hook.ensures (told above).used s.used);
       group = c.group_below-self.ensures ∙ ap (left_open_by ls act) s.group;

@@ -10,6 +10,8 @@ returns c = λ above s.
     record {
       tasks = ap targets c.in_ok-insert.ensures.keys ∙ name_added ks c.args.name c.requires.new ∙ ap (λ ns. ns ++ c.args.name.now ∷ []) s.tasks;
       names = s.names;
+      seen = s.seen;
+      pairs = s.pairs;
       supers = s.supers;
       used = s.used;
       group = s.group;
