@@ -1,12 +1,11 @@
 -- The pieces of an area that change owner: what each owner loses to each other one, and that no place has two owners.
-use Rattle.std.proofs.Common.{◌≡◌, ℕ, zero, suc, ◌+◌, ◌<◌, ◌≤◌, ◌==◌, Bool, true, false, not, ◌&&◌, cond, List, [], ◌∷◌, ◌++◌, map, length, ℤ, Option, Some, None, refl, sym, ap, subst, ◌∙◌, inl, inr, arith}
+use Rattle.std.proofs.Common.{◌≡◌, ℕ, ◌+◌, ◌<◌, ◌≤◌, ◌==◌, Bool, true, false, not, ◌&&◌, cond, List, [], ◌∷◌, ◌++◌, take, get_or, map, length, ℤ, Option, Some, None, refl, sym, ap, subst, ◌∙◌, inl, inr, arith}
 use Rattle.std.specs.Prelude.{if◌then◌else◌}
-use Rattle.std.specs.List.{All, filter}
+use Rattle.std.specs.List.{All, filter, flat_map}
 use Rattle.std.specs.Option.{is_some}
 use Rattle.std.proofs.lemmas.Bool.{false≢true, cases_lt, ne_eqb, eq-eqb, eqb-true, and_parts, and_from, and_right}
-use Rattle.std.proofs.lemmas.List.{append-nil, get_or_default, get_or_past, nil_from_length}
-use Rattle.std.proofs.lemmas.List.Concat.{flat_map-append}
-use Rattle.std.proofs.lemmas.List.Elements.{All-nil, All-append, All-map}
+use Rattle.std.proofs.lemmas.List.{append-nil, take_all, take_more, flat_map_more, get_or_default, get_or_past}
+use Rattle.std.proofs.lemmas.List.Elements.{All-nil, All-cons, All-head, All-tail}
 use Rattle.lw_region.specs.Rectangle.{Rectangle, has_pixel}
 use Rattle.lw_region.specs.Pixels.{pixels_of, intersection}
 use Rattle.lw_region.specs.Bands.{bands, covers}
@@ -20,9 +19,12 @@ use Rattle.lw_machine.specs.Screen.{screen_bounds}
 use Rattle.lw_strips.specs.Laying.{screen, LiesIn}
 use Rattle.lw_strips.specs.declared.piece.Piece.{Piece}
 use Rattle.lw_cliprects.specs.Parts.{LieIn}
+use Rattle.lw_stack.specs.declared.sets.SlotSet.{SlotSet}
+use Rattle.lw_stack.specs.Sets.{set_of, sets_of, AreOfOthers, AreOfSlots}
+use Rattle.lw_stack.proofs.SetsLaws.{slots_more, set_more, set_in, past_none}
 use Rattle.lw_stack.specs.Stack.{Stack, first_at, top_in, AreShownIn}
 use Rattle.lw_stack.proofs.FirstLaws.{top_on_screen}
-use Rattle.lw_arrange.specs.Pieces.{is_owner, owner_has, between, ArePieces, owner_in, piece_of, pieces_to, gather, owners_below, losses_to, losses, all_losses}
+use Rattle.lw_arrange.specs.Pieces.{is_owner, owner_has, between, ArePieces, owner_in, piece_of, pieces_to, with_desktop, losses_to, all_losses, AreOwnersOf, AreExchanged}
 
 -- the places that both lists have
 abbrev common : List Rectangle → List Rectangle → List Rectangle
@@ -53,45 +55,31 @@ nothing_gained a b lost gained empty =
     by_test true none = refl
     by_test false none = ap (map (piece_of a b)) none
 
-pub no_losses : (a : ℕ) (lost : List Rectangle) (sets : List (List Rectangle)) (rest : List Rectangle) (owners : List ℕ) → lost ≡ []
-    → losses_to a lost sets rest owners ≡ []
-no_losses a lost sets rest [] empty = refl
-no_losses a lost sets rest (b ∷ owners) empty =
-    ap (λ l. l ++ losses_to a lost sets rest owners) (nothing_lost a b lost (owner_in sets rest b) empty)
-    ∙ no_losses a lost sets rest owners empty
+pub no_losses : (a : ℕ) (lost : List Rectangle) (owners : List SlotSet) → lost ≡ [] → losses_to a lost owners ≡ []
+no_losses a lost [] empty = refl
+no_losses a lost (q ∷ owners) empty =
+    ap (λ l. l ++ losses_to a lost owners) (nothing_lost a q.slot lost q.set empty) ∙ no_losses a lost owners empty
 
 pub none_more : (ps qs : List Piece) → qs ≡ [] → ps ≡ ps ++ qs
 none_more ps qs none = sym (ap (λ l. ps ++ l) none ∙ append-nil ps)
 
--- an owner loses nothing to those of which nothing is shown afterwards
-pub losses_are_to : (n a : ℕ) (lost : List Rectangle) (sets : List (List Rectangle)) (rest : List Rectangle)
-    → losses_to a lost sets rest (owners_below n sets rest) ≡ losses n a lost sets rest
-losses_are_to zero a lost sets rest = refl
-losses_are_to (suc n) a lost sets rest = by_test (length gained == 0) refl (losses_are_to n a lost sets rest)
-  where
-    gained : List Rectangle
-    gained = owner_in sets rest n
+-- the pieces of one owner more, and of the desktop after all slots
+pub gathered_more : (f : SlotSet → List Piece) (parts : List SlotSet) (i : ℕ) (p : SlotSet) (before now after : List Piece)
+    → i < length parts → p ≡ get_or parts i p → now ≡ before ++ flat_map f (take i parts) → after ≡ now ++ f p
+    → after ≡ before ++ flat_map f (take (i + 1) parts)
+gathered_more f parts i p before now after below is so_far more =
+    more
+    ∙ (ap (λ l. l ++ f p) so_far
+    ∙ (flat_map_more f before (take i parts) p
+    ∙ ap (λ l. before ++ flat_map f l) (ap (λ q. take i parts ++ q ∷ []) is ∙ sym (take_more parts i p below))))
 
-    by_test : (t : Bool) → (length gained == 0) ≡ t → losses_to a lost sets rest (owners_below n sets rest) ≡ losses n a lost sets rest
-        → losses_to a lost sets rest (if t then owners_below n sets rest else owners_below n sets rest ++ n ∷ [])
-        ≡ losses n a lost sets rest ++ pieces_to a lost n gained
-    by_test true none same =
-        same ∙ none_more (losses n a lost sets rest) _
-        (nothing_gained a n lost gained (nil_from_length gained (eqb-true (length gained) 0 none)))
-    by_test false some same =
-        flat_map-append (λ b. pieces_to a lost b (owner_in sets rest b)) (owners_below n sets rest) (n ∷ [])
-        ∙ (ap (λ l. l ++ (pieces_to a lost n gained ++ [])) same
-        ∙ ap (λ l. losses n a lost sets rest ++ l) (append-nil (pieces_to a lost n gained)))
-
--- the pieces that one owner more loses
-pub one_owner_more : (k n : ℕ) (were : List (List Rectangle)) (bare : List Rectangle) (sets : List (List Rectangle)) (rest : List Rectangle)
-    (pieces : List Piece) (lost : List Rectangle) → pieces ≡ all_losses k n were bare sets rest → lost ≡ owner_in were bare k
-    → pieces ++ losses n k lost sets rest ≡ all_losses (k + 1) n were bare sets rest
-one_owner_more k n were bare sets rest pieces lost so_far is =
-    let next : suc k ≡ k + 1 = omega arith in
-    ap (λ l. l ++ losses n k lost sets rest) so_far
-    ∙ (ap (λ l. all_losses k n were bare sets rest ++ losses n k l sets rest) is
-    ∙ ap (λ m. all_losses m n were bare sets rest) next)
+pub gathered_all : (f : SlotSet → List Piece) (parts : List SlotSet) (i : ℕ) (p : SlotSet) (before now after : List Piece)
+    → length parts ≤ i → now ≡ before ++ flat_map f (take i parts) → after ≡ now ++ f p
+    → after ≡ before ++ flat_map f (parts ++ p ∷ [])
+gathered_all f parts i p before now after end so_far more =
+    more
+    ∙ (ap (λ l. l ++ f p) (so_far ∙ ap (λ l. before ++ flat_map f l) (take_all i parts end))
+    ∙ flat_map_more f before parts p)
 
 pub nothing_to_itself : (a b : ℕ) (lost gained : List Rectangle) → a ≡ b → pieces_to a lost b gained ≡ []
 nothing_to_itself a b lost gained same =
@@ -139,84 +127,165 @@ pair_other a b c lost d gained other = by_test (c == d)
     by_test false = between_other a b c d (common lost gained) other
 
 -- of all pieces, those of no pair, and those of one
-gather_none : (a b n : ℕ) (f : ℕ → List Piece) → ((k : ℕ) → k < n → between a b (f k) ≡ []) → between a b (gather n f) ≡ []
-gather_none a b zero f none = refl
-gather_none a b (suc n) f none =
-    between_append a b (gather n f) (f n)
-    ∙ (ap (λ l. l ++ between a b (f n)) (gather_none a b n f (λ k below. none k (omega arith))) ∙ none n (omega arith))
+gather_none : (a b : ℕ) (f : SlotSet → List Piece) (ps : List SlotSet) → ((p : SlotSet) → between a b (f p) ≡ [])
+    → between a b (flat_map f ps) ≡ []
+gather_none a b f [] none = refl
+gather_none a b f (p ∷ ps) none =
+    between_append a b (f p) (flat_map f ps)
+    ∙ (ap (λ l. l ++ between a b (flat_map f ps)) (none p) ∙ gather_none a b f ps none)
 
-gather_one : (a b n key : ℕ) (f : ℕ → List Piece) → key < n → ((k : ℕ) → (k == key) ≡ false → between a b (f k) ≡ [])
-    → between a b (gather n f) ≡ between a b (f key)
-gather_one a b zero key f below others = absurd (omega arith)
-gather_one a b (suc n) key f below others =
-    between_append a b (gather n f) (f n)
-    ∙ elim (cases_lt key n) [
-      | inl less ↦ ap (λ l. between a b (gather n f) ++ l) (others n (ne_eqb n key (λ same. absurd (omega arith))))
-          ∙ (append-nil (between a b (gather n f)) ∙ gather_one a b n key f less others)
-      | inr most ↦ ap (λ l. l ++ between a b (f n)) (gather_none a b n f (λ k low. others k (ne_eqb k key (λ same. absurd (omega arith)))))
-          ∙ ap (λ m. between a b (f m)) (last n key below most)
-    ]
+gather_others : (a b key : ℕ) (f : SlotSet → List Piece) (ps : List SlotSet)
+    → ((p : SlotSet) → (p.slot == key) ≡ false → between a b (f p) ≡ []) → AreOfOthers key ps → between a b (flat_map f ps) ≡ []
+gather_others a b key f [] none h = refl
+gather_others a b key f (p ∷ ps) none h =
+    between_append a b (f p) (flat_map f ps)
+    ∙ (ap (λ l. l ++ between a b (flat_map f ps)) (none p h.0) ∙ gather_others a b key f ps none h.1)
+
+gather_one : (a b key n : ℕ) (f : SlotSet → List Piece) (g : List Rectangle → List Rectangle) (ps : List SlotSet)
+    → ((p : SlotSet) → (p.slot == key) ≡ false → between a b (f p) ≡ [])
+    → ((p : SlotSet) → p.slot ≡ key → between a b (f p) ≡ g p.set) → g [] ≡ [] → AreOfSlots n ps
+    → between a b (flat_map f ps) ≡ g (set_of ps key)
+gather_one a b key n f g [] others own none h = sym none
+gather_one a b key n f g (p ∷ ps) others own none h =
+    between_append a b (f p) (flat_map f ps) ∙ by_test (p.slot == key) refl (gather_one a b key n f g ps others own none h.2)
   where
-    last : (n key : ℕ) → key < suc n → n ≤ key → n ≡ key
-    last n key below most = omega arith
+    by_test : (t : Bool) → (p.slot == key) ≡ t → between a b (flat_map f ps) ≡ g (set_of ps key)
+        → between a b (f p) ++ between a b (flat_map f ps) ≡ g (if t then p.set else set_of ps key)
+    by_test true is rest =
+        let same = eqb-true p.slot key is in
+        ap (λ l. between a b (f p) ++ l) (gather_others a b key f ps others (subst (λ k. AreOfOthers k ps) same h.1))
+        ∙ (append-nil (between a b (f p)) ∙ own p same)
+    by_test false is rest = ap (λ l. l ++ between a b (flat_map f ps)) (others p is) ∙ rest
 
-module _ (n : ℕ) (were : List (List Rectangle)) (bare : List Rectangle) (sets : List (List Rectangle)) (rest : List Rectangle) where
-  abbrev pub all_of : List Piece
-  all_of = all_losses n n were bare sets rest
+-- what one owner loses to another one: to itself nothing
+abbrev pair_of : ℕ → ℕ → List Rectangle → List Rectangle → List Rectangle
+pair_of a b lost gained = if a == b then [] else common lost gained
 
-  all_between : (a b : ℕ) → a < n → b < n
-      → between a b all_of ≡ (if a == b then [] else common (owner_in were bare a) (owner_in sets rest b))
-  all_between a b one other =
-      gather_one a b n a (λ k. losses n k (owner_in were bare k) sets rest) one
-      (λ k off. gather_none a b n (λ j. pieces_to k (owner_in were bare k) j (owner_in sets rest j))
-      (λ j _. pair_other a b k (owner_in were bare k) j (owner_in sets rest j) (ap (λ t. t && (j == b)) off)))
-      ∙ (gather_one a b n b (λ j. pieces_to a (owner_in were bare a) j (owner_in sets rest j)) other
-      (λ j off. pair_other a b a (owner_in were bare a) j (owner_in sets rest j) (and_right (a == a) (j == b) off))
-      ∙ pair_own a b (owner_in were bare a) (owner_in sets rest b))
+pair_of_none : (a b : ℕ) (lost gained : List Rectangle) → ((x y : ℤ) → (covers lost x y && covers gained x y) ≡ false)
+    → pair_of a b lost gained ≡ []
+pair_of_none a b lost gained none = by_test (a == b)
+  where
+    by_test : (t : Bool) → (if t then [] else common lost gained) ≡ []
+    by_test true = refl
+    by_test false = nothing_common lost gained none
 
-  no_loser : (a b : ℕ) → n ≤ a → between a b all_of ≡ []
+lost_none : (a b : ℕ) (gained : List Rectangle) → pair_of a b [] gained ≡ []
+lost_none a b gained = pair_of_none a b [] gained (λ x y. ap (λ t. t && covers gained x y) (covers_nil x y))
+
+gained_none : (a b : ℕ) (lost : List Rectangle) → pair_of a b lost [] ≡ []
+gained_none a b lost =
+    pair_of_none a b lost [] (λ x y. ap (λ t. covers lost x y && t) (covers_nil x y) ∙ and_right (covers lost x y) false refl)
+
+all_between : (n m : ℕ) (losing gaining : List SlotSet) → AreOfSlots n losing → AreOfSlots m gaining → (a b : ℕ)
+    → between a b (all_losses losing gaining) ≡ pair_of a b (set_of losing a) (set_of gaining b)
+all_between n m losing gaining h k a b =
+    gather_one a b a n (λ p. losses_to p.slot p.set gaining) (λ l. pair_of a b l (set_of gaining b)) losing
+    (λ p off. gather_none a b (λ q. pieces_to p.slot p.set q.slot q.set) gaining
+    (λ q. pair_other a b p.slot p.set q.slot q.set (ap (λ t. t && (q.slot == b)) off)))
+    (λ p is. gather_one a b b m (λ q. pieces_to p.slot p.set q.slot q.set) (λ l. pair_of a b p.set l) gaining
+    (λ q off. pair_other a b p.slot p.set q.slot q.set (and_right (p.slot == a) (q.slot == b) off))
+    (λ q at. ap (λ c. between a b (pieces_to c p.set q.slot q.set)) is
+    ∙ (ap (λ d. between a b (pieces_to a p.set d q.set)) at ∙ pair_own a b p.set q.set)) (gained_none a b p.set) k)
+    (lost_none a b (set_of gaining b)) h
+
+-- what holds of the pieces of each pair holds of all
+from_between : (P : Piece → Type 0) (ps : List Piece) → ((a b : ℕ) → All (λ r. P (piece_of a b r)) (between a b ps)) → All P ps
+from_between P [] each = All-nil P
+from_between P (p ∷ ps) each =
+    All-cons P p ps
+    (first p.from p.to (filter (λ q. q.from == p.from && q.to == p.to) ps) (p.from == p.from && p.to == p.to)
+    (and_from (p.from == p.from) (p.to == p.to) (eq-eqb p.from p.from refl) (eq-eqb p.to p.to refl)) (each p.from p.to))
+    (from_between P ps (λ a b. rest a b (filter (λ q. q.from == a && q.to == b) ps) (p.from == a && p.to == b) (each a b)))
+  where
+    first : (a b : ℕ) (left : List Piece) (t : Bool) → t ≡ true
+        → All (λ r. P (piece_of a b r)) (map (λ q. q.rect) (cond t (p ∷ left) left)) → P (piece_of a b p.rect)
+    first a b left true is all = All-head (λ r. P (piece_of a b r)) p.rect (map (λ q. q.rect) left) all
+    first a b left false is all = absurd (false≢true is)
+
+    rest : (a b : ℕ) (left : List Piece) (t : Bool) → All (λ r. P (piece_of a b r)) (map (λ q. q.rect) (cond t (p ∷ left) left))
+        → All (λ r. P (piece_of a b r)) (map (λ q. q.rect) left)
+    rest a b left true all = All-tail (λ r. P (piece_of a b r)) p.rect (map (λ q. q.rect) left) all
+    rest a b left false all = all
+
+-- what is told of slots and of the desktop is told of all owners
+fewer_slots : (n m : ℕ) (ps : List SlotSet) → n ≤ m → AreOfSlots n ps → AreOfSlots m ps
+fewer_slots n m [] most h = tt
+fewer_slots n m (p ∷ ps) most h = (omega (arith, most, h.0), h.1, fewer_slots n m ps most h.2)
+
+of_slots : (n : ℕ) (ps : List SlotSet) → AreOfSlots n ps → AreOfOthers n ps
+of_slots n [] h = tt
+of_slots n (p ∷ ps) h = (ne_eqb p.slot n (λ same. absurd (omega (arith, same, h.0))), of_slots n ps h.2)
+
+pub owners_of : (slots : ℕ) (sets : List (List Rectangle)) (rest : List Rectangle) (parts : List SlotSet) → length sets ≡ slots
+    → AreOfSlots (length sets) parts → sets ≡ sets_of (length sets) parts → AreOwnersOf slots sets rest (with_desktop slots parts rest)
+owners_of slots sets rest parts many h is = record {
+  once = slots_more (slots + 1) parts desktop (fewer_slots slots (slots + 1) parts (omega arith) low) (omega arith) others;
+  sets = λ k most.
+      set_more slots parts desktop k others refl
+      ∙ elim (cases_lt k slots) [
+        | inl below ↦ ap (λ t. if t then rest else set_of parts k) (ne_eqb slots k (λ same. absurd (omega (arith, same, below))))
+            ∙ (sym (set_in (length sets) parts k h)
+            ∙ (ap (λ l. get_or l k []) (sym is) ∙ sym (get_or_default sets k rest [] (omega (arith, below, many)))))
+        | inr past ↦ ap (λ t. if t then rest else set_of parts k) (eq-eqb slots k (omega (arith, past, most)))
+            ∙ sym (get_or_past sets k rest (omega (arith, past, many)))
+      ];
+}
+  where
+    desktop : SlotSet
+    desktop = record { slot = slots; set = rest }
+
+    low : AreOfSlots slots parts
+    low = subst (λ n. AreOfSlots n parts) many h
+
+    others : AreOfOthers slots parts
+    others = of_slots slots parts low
+
+-- the pieces of each pair of owners
+module _ (slots : ℕ) (were : List (List Rectangle)) (bare : List Rectangle) (sets : List (List Rectangle)) (rest : List Rectangle)
+    (pieces : List Piece) (h : AreExchanged slots were bare sets rest pieces) where
+  pairs : (a b : ℕ) → between a b pieces ≡ pair_of a b (set_of h.losing a) (set_of h.gaining b)
+  pairs a b = ap (between a b) h.all ∙ all_between (slots + 1) (slots + 1) h.losing h.gaining h.before.once h.after.once a b
+
+  pair_between : (a b : ℕ) → a ≤ slots → b ≤ slots → between a b pieces ≡ pair_of a b (owner_in were bare a) (owner_in sets rest b)
+  pair_between a b one other =
+      pairs a b
+      ∙ (ap (λ l. pair_of a b l (set_of h.gaining b)) (h.before.sets a one) ∙ ap (λ l. pair_of a b (owner_in were bare a) l) (h.after.sets b other))
+
+  no_loser : (a b : ℕ) → slots + 1 ≤ a → between a b pieces ≡ []
   no_loser a b past =
-      gather_none a b n (λ k. losses n k (owner_in were bare k) sets rest)
-      (λ k below. gather_none a b n (λ j. pieces_to k (owner_in were bare k) j (owner_in sets rest j))
-      (λ j _. pair_other a b k (owner_in were bare k) j (owner_in sets rest j)
-      (ap (λ t. t && (j == b)) (ne_eqb k a (λ same. absurd (omega arith))))))
+      pairs a b ∙ (ap (λ l. pair_of a b l (set_of h.gaining b)) (past_none (slots + 1) h.losing a h.before.once past) ∙ lost_none a b _)
 
-  no_gainer : (a b : ℕ) → n ≤ b → between a b all_of ≡ []
+  no_gainer : (a b : ℕ) → slots + 1 ≤ b → between a b pieces ≡ []
   no_gainer a b past =
-      gather_none a b n (λ k. losses n k (owner_in were bare k) sets rest)
-      (λ k _. gather_none a b n (λ j. pieces_to k (owner_in were bare k) j (owner_in sets rest j))
-      (λ j below. pair_other a b k (owner_in were bare k) j (owner_in sets rest j)
-      (and_right (k == a) (j == b) (ne_eqb j b (λ same. absurd (omega arith))))))
+      pairs a b ∙ (ap (λ l. pair_of a b (set_of h.losing a) l) (past_none (slots + 1) h.gaining b h.after.once past) ∙ gained_none a b _)
 
-  all_canonical : (a b : ℕ) → IsCanonical (between a b all_of)
-  all_canonical a b =
-      elim (cases_lt a n) [
-        | inl one ↦ elim (cases_lt b n) [
-          | inl other ↦ subst IsCanonical (sym (all_between a b one other)) (by_test (a == b))
-          | inr past ↦ subst IsCanonical (sym (no_gainer a b past)) canonical_nil
-        ]
-        | inr past ↦ subst IsCanonical (sym (no_loser a b past)) canonical_nil
-      ]
+  pairs_canonical : (a b : ℕ) → IsCanonical (between a b pieces)
+  pairs_canonical a b = subst IsCanonical (sym (pairs a b)) (by_test (a == b))
     where
-      by_test : (t : Bool) → IsCanonical (if t then [] else common (owner_in were bare a) (owner_in sets rest b))
+      by_test : (t : Bool) → IsCanonical (if t then [] else common (set_of h.losing a) (set_of h.gaining b))
       by_test true = canonical_nil
       by_test false = canonical_bands _
 
   -- what holds of the rectangles of each pair holds of all pieces
   all_hold : (P : Piece → Type 0)
-      → ((a b : ℕ) → a < n → b < n → All (λ r. P (piece_of a b r)) (common (owner_in were bare a) (owner_in sets rest b))) → All P all_of
+      → ((a b : ℕ) → a ≤ slots → b ≤ slots → All (λ r. P (piece_of a b r)) (common (owner_in were bare a) (owner_in sets rest b)))
+      → All P pieces
   all_hold P each =
-      gathered n (λ a. losses n a (owner_in were bare a) sets rest)
-      (λ a one. gathered n (λ b. pieces_to a (owner_in were bare a) b (owner_in sets rest b)) (λ b other. by_test a b (a == b) (each a b one other)))
+      from_between P pieces
+      (λ a b. elim (cases_lt a (slots + 1)) [
+        | inl one ↦ elim (cases_lt b (slots + 1)) [
+          | inl other ↦ subst (λ l. All (λ r. P (piece_of a b r)) l)
+              (sym (pair_between a b (omega (arith, one)) (omega (arith, other))))
+              (by_test a b (a == b) (each a b (omega (arith, one)) (omega (arith, other))))
+          | inr past ↦ subst (λ l. All (λ r. P (piece_of a b r)) l) (sym (no_gainer a b past)) (All-nil _)
+        ]
+        | inr past ↦ subst (λ l. All (λ r. P (piece_of a b r)) l) (sym (no_loser a b past)) (All-nil _)
+      ])
     where
-      gathered : (k : ℕ) (f : ℕ → List Piece) → ((j : ℕ) → j < k → All P (f j)) → All P (gather k f)
-      gathered zero f all = All-nil P
-      gathered (suc k) f all = All-append P (gather k f) (f k) (gathered k f (λ j below. all j (omega arith))) (all k (omega arith))
-
       by_test : (a b : ℕ) (t : Bool) → All (λ r. P (piece_of a b r)) (common (owner_in were bare a) (owner_in sets rest b))
-          → All P (if t then [] else map (piece_of a b) (common (owner_in were bare a) (owner_in sets rest b)))
-      by_test a b true all = All-nil P
-      by_test a b false all = All-map P (piece_of a b) (common (owner_in were bare a) (owner_in sets rest b)) all
+          → All (λ r. P (piece_of a b r)) (if t then [] else common (owner_in were bare a) (owner_in sets rest b))
+      by_test a b true all = All-nil _
+      by_test a b false all = all
 
 -- no place has two owners
 bare_or_top : (on : Bool) (o : Option ℕ) (b : ℕ) → ((on && not (is_some o)) && is_the o b) ≡ false
@@ -296,20 +365,19 @@ in_area true h k none = refl
 
 -- The pieces of an area, outside which the same layer is on top before and after, are those of the whole screen.
 pub are_pieces : (v w : Stack) (area : List Rectangle) (were : List (List Rectangle)) (bare : List Rectangle) (sets : List (List Rectangle))
-    (rest : List Rectangle) (n : ℕ) (pieces : List Piece) → n ≡ v.sizes.slots + 1 → w.sizes ≡ v.sizes → AreOwnersIn area v were bare
+    (rest : List Rectangle) (slots : ℕ) (pieces : List Piece) → slots ≡ v.sizes.slots → w.sizes ≡ v.sizes → AreOwnersIn area v were bare
     → AreOwnersIn area w sets rest → LieIn (screen_bounds v.sizes) area
     → ((x y : ℤ) → covers area x y ≡ false → top_in v x y ≡ top_in w x y)
-    → pieces ≡ all_losses n n were bare sets rest → ArePieces v w pieces
-are_pieces v w area were bare sets rest n pieces count same before after inside elsewhere is =
-    let P : List Piece → Type 0 = λ ps. ArePieces v w ps in
-    subst P (sym is) (record {
-      owners = all_hold n were bare sets rest (λ p. (p.from ≤ v.sizes.slots) × (p.to ≤ v.sizes.slots))
-          (λ a b one other k d below. (omega (arith, one, count), omega (arith, other, count)));
-      canonical = all_canonical n were bare sets rest;
-      places = λ a b x y one other.
-          ap (λ l. covers l x y) (all_between n were bare sets rest a b (omega (arith, one, count)) (omega (arith, other, count)))
-          ∙ by_test a b x y (a == b) refl one other;
-    })
+    → AreExchanged slots were bare sets rest pieces → ArePieces v w pieces
+are_pieces v w area were bare sets rest slots pieces count same before after inside elsewhere h = record {
+  owners = all_hold slots were bare sets rest pieces h (λ p. (p.from ≤ v.sizes.slots) × (p.to ≤ v.sizes.slots))
+      (λ a b one other k d below. (omega (arith, one, count), omega (arith, other, count)));
+  canonical = pairs_canonical slots were bare sets rest pieces h;
+  places = λ a b x y one other.
+      ap (λ l. covers l x y)
+      (pair_between slots were bare sets rest pieces h a b (omega (arith, one, count)) (omega (arith, other, count)))
+      ∙ by_test a b x y (a == b) refl one other;
+}
   where
     inside_after : LieIn (screen_bounds w.sizes) area
     inside_after = subst (λ z. LieIn (screen_bounds z) area) (sym same) inside
@@ -332,15 +400,14 @@ are_pieces v w area were bare sets rest n pieces count same before after inside 
 
 -- and they lie on the screen
 pub pieces_on_screen : (v : Stack) (area : List Rectangle) (were : List (List Rectangle)) (bare : List Rectangle) (sets : List (List Rectangle))
-    (rest : List Rectangle) (n : ℕ) (pieces : List Piece) → n ≡ v.sizes.slots + 1 → AreOwnersIn area v were bare → LieIn (screen_bounds v.sizes) area
-    → pieces ≡ all_losses n n were bare sets rest → All (λ p. LiesIn p.rect (screen v.sizes.width v.sizes.height)) pieces
-pieces_on_screen v area were bare sets rest n pieces count before inside is =
-    let P : List Piece → Type 0 = λ ps. All (λ p. LiesIn p.rect (screen v.sizes.width v.sizes.height)) ps in
-    subst P (sym is)
-    (all_hold n were bare sets rest (λ p. LiesIn p.rect (screen v.sizes.width v.sizes.height))
+    (rest : List Rectangle) (slots : ℕ) (pieces : List Piece) → slots ≡ v.sizes.slots → AreOwnersIn area v were bare
+    → LieIn (screen_bounds v.sizes) area → AreExchanged slots were bare sets rest pieces
+    → All (λ p. LiesIn p.rect (screen v.sizes.width v.sizes.height)) pieces
+pieces_on_screen v area were bare sets rest slots pieces count before inside h =
+    all_hold slots were bare sets rest pieces h (λ p. LiesIn p.rect (screen v.sizes.width v.sizes.height))
     (λ a b one other k d below x y has.
     let both = and_parts (covers (owner_in were bare a) x y) (covers (owner_in sets rest b) x y)
     (sym (common_places (owner_in were bare a) (owner_in sets rest b) x y) ∙ has_at (common (owner_in were bare a) (owner_in sets rest b)) k d x y below has) in
     inside x y
     (and_parts (covers area x y) (owner_has v a x y)
-    (sym (owner_places area v were bare before inside a (omega (arith, one, count)) x y) ∙ both.0)).0))
+    (sym (owner_places area v were bare before inside a (omega (arith, one, count)) x y) ∙ both.0)).0)

@@ -1,6 +1,6 @@
 -- The pieces of the screen that change owner in an arrangement (the manual's Layers Library chapter has clip rectangles; that
 -- they are exchanged so is this project's own). Owners are the slots by their numbers, and the desktop by the number of slots.
-use Rattle.std.specs.Prelude.{◌≡◌, ℕ, zero, suc, ◌≤◌, ◌==◌, Bool, not, ◌&&◌, if◌then◌else◌, List, [], ◌∷◌, ◌++◌, length, map, ℤ, Option}
+use Rattle.std.specs.Prelude.{◌≡◌, ℕ, ◌+◌, ◌≤◌, ◌==◌, Bool, not, ◌&&◌, if◌then◌else◌, List, [], ◌∷◌, ◌++◌, map, ℤ, Option}
 use Rattle.std.specs.List.{All, filter, flat_map, slice_index_or}
 use Rattle.std.specs.Option.{is_some}
 use Rattle.lw_region.specs.Rectangle.{Rectangle, has_pixel}
@@ -10,6 +10,8 @@ use Rattle.lw_region.specs.Banded.{IsCanonical}
 use Rattle.lw_machine.specs.Desk.{is_the}
 use Rattle.lw_strips.specs.Laying.{screen}
 use Rattle.lw_strips.specs.declared.piece.Piece.{Piece}
+use Rattle.lw_stack.specs.declared.sets.SlotSet.{SlotSet}
+use Rattle.lw_stack.specs.Sets.{set_of, AreOfSlots}
 use Rattle.lw_stack.specs.Stack.{Stack, top_in}
 use Rattle.lw_arrange.specs.declared.arrangement.Step.{Step}
 use Rattle.lw_arrange.specs.declared.arrangement.Step.TheVariants.{Refused, Arranged}
@@ -42,7 +44,7 @@ StepHasPieces v (Refused r) = Unit {0}
 StepHasPieces v (Arranged a) = ArePieces v a.stack a.pieces
 
 -- Words of this crate's private contracts: what is shown within an area of each owner, by slot and, for the desktop, the rest;
--- and the pieces of it that owner a loses to owner b, to all owners below n, and that all owners below n lose.
+-- and the pieces of it that owner a loses to owner b, to all of these owners, and that all of these lose.
 abbrev pub owner_in : List (List Rectangle) → List Rectangle → ℕ → List Rectangle
 owner_in sets rest k = slice_index_or sets k rest
 
@@ -52,22 +54,26 @@ piece_of a b r = record { from = a; to = b; rect = r }
 abbrev pub pieces_to : ℕ → List Rectangle → ℕ → List Rectangle → List Piece
 pieces_to a lost b gained = if a == b then [] else map (piece_of a b) (bands (intersection (pixels_of lost) (pixels_of gained)))
 
-abbrev pub gather : ℕ → (ℕ → List Piece) → List Piece
-gather zero f = []
-gather (suc n) f = gather n f ++ f n
+-- slots with what is shown of them, and the desktop with the rest
+abbrev pub with_desktop : ℕ → List SlotSet → List Rectangle → List SlotSet
+with_desktop slots parts rest = parts ++ record { slot = slots; set = rest } ∷ []
 
--- the owners below n of which something is shown, in rising order
-abbrev pub owners_below : ℕ → List (List Rectangle) → List Rectangle → List ℕ
-owners_below zero sets rest = []
-owners_below (suc n) sets rest =
-    if length (owner_in sets rest n) == 0 then owners_below n sets rest else owners_below n sets rest ++ n ∷ []
+abbrev pub losses_to : ℕ → List Rectangle → List SlotSet → List Piece
+losses_to a lost owners = flat_map (λ q. pieces_to a lost q.slot q.set) owners
 
--- the pieces of what was shown that an owner loses to each of these
-abbrev pub losses_to : ℕ → List Rectangle → List (List Rectangle) → List Rectangle → List ℕ → List Piece
-losses_to a lost sets rest owners = flat_map (λ b. pieces_to a lost b (owner_in sets rest b)) owners
+abbrev pub all_losses : List SlotSet → List SlotSet → List Piece
+all_losses losing gaining = flat_map (λ p. losses_to p.slot p.set gaining) losing
 
-abbrev pub losses : ℕ → ℕ → List Rectangle → List (List Rectangle) → List Rectangle → List Piece
-losses n a lost sets rest = gather n (λ b. pieces_to a lost b (owner_in sets rest b))
+-- These owners, each once, have what is shown, and all others nothing.
+pub record AreOwnersOf (slots : ℕ) (shown : List (List Rectangle)) (rest : List Rectangle) (owners : List SlotSet) : Type 0 where
+  pub once : AreOfSlots (slots + 1) owners
+  pub sets : (k : ℕ) → k ≤ slots → set_of owners k ≡ owner_in shown rest k
 
-abbrev pub all_losses : ℕ → ℕ → List (List Rectangle) → List Rectangle → List (List Rectangle) → List Rectangle → List Piece
-all_losses k n were bare sets rest = gather k (λ a. losses n a (owner_in were bare a) sets rest)
+-- The pieces are those that each owner loses to each other one, by what is shown of it before and afterwards.
+pub record AreExchanged (slots : ℕ) (were : List (List Rectangle)) (bare : List Rectangle) (shown : List (List Rectangle))
+    (rest : List Rectangle) (pieces : List Piece) : Type 0 where
+  pub losing : List SlotSet
+  pub gaining : List SlotSet
+  pub before : AreOwnersOf slots were bare losing
+  pub after : AreOwnersOf slots shown rest gaining
+  pub all : pieces ≡ all_losses losing gaining

@@ -153,7 +153,7 @@ impl Arrangement {
         requires { slot < self.now.stack.sizes.slots }
         ensures { result.now ≡ slice_index_or self.now.shown slot [] }
     {
-        &self.shown.sets[slot as usize]
+        self.shown.sets.get(slot)
     }
 
     /// The places of the area that no layer has after it.

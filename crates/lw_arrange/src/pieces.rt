@@ -1,76 +1,72 @@
 // The pieces of an area that change owner. Owners are the slots by their numbers, and the desktop by the number of slots.
 
-ghost use Rattle.std.specs.Prelude.{◌≡◌, ◌≤◌, ◌+◌, ◌++◌, map, IfOk, OnOk};
-ghost use Rattle.lw_arrange.specs.Pieces.{owner_in, piece_of, pieces_to, owners_below, losses_to, all_losses};
+ghost use Rattle.std.specs.Prelude.{◌≡◌, ◌++◌, map, length, IfOk, OnOk};
+ghost use Rattle.lw_arrange.specs.Pieces.{piece_of, pieces_to, with_desktop, losses_to, AreExchanged};
 
 use lw_region::{Rect, Region, and_region};
-use lw_stack::Shown;
+use lw_stack::{Shown, SlotSet};
 use lw_strips::Piece;
 use std::alloc::{AllocError, Global};
 
-/// The pieces that each owner loses to each other one, by what is shown of it in the area before and afterwards.
+/// The pieces that each owner loses to each other one, by what is shown of it in the area before and afterwards. Slots of which
+/// nothing is shown aren't looked at: of many slots few are live.
 pub(crate) fn pieces_of(
     alloc: Global,
     slots: u32,
     were: &Shown,
     shown: &Shown,
 ) -> Result<Vec<Piece>, AllocError>
-    requires { slots ≤ 1024 }
-    ensures { IfOk result (λ pieces. pieces.items
-        ≡ all_losses (slots + 1) (slots + 1) were.now.sets.items were.now.rest shown.now.sets.items shown.now.rest) }
+    requires before { length were.now.sets.items ≡ slots }
+    requires after { length shown.now.sets.items ≡ slots }
+    ensures { IfOk result (λ pieces. AreExchanged slots were.now.sets.items were.now.rest
+        shown.now.sets.items shown.now.rest pieces.items) }
 {
-    let gaining = owners_of(alloc, slots, shown)?;
+    let losing = were.sets.parts();
+    let gaining = shown.sets.parts();
     let mut pieces = Vec::new(alloc);
-    for from in 0..slots + 1 {
-        let lost = owned(were, from);
-        add_losses(alloc, from, lost, gaining.as_slice(), shown, &mut pieces)?;
+    for part in losing {
+        add_losses(
+            alloc,
+            part.slot,
+            &part.set,
+            slots,
+            gaining,
+            &shown.rest,
+            &mut pieces,
+        )?;
     }
+    add_losses(
+        alloc,
+        slots,
+        &were.rest,
+        slots,
+        gaining,
+        &shown.rest,
+        &mut pieces,
+    )?;
     Ok(pieces)
 }
 
-// The owners of which something is shown, in rising order: of many slots few are live.
-fn owners_of(alloc: Global, slots: u32, shown: &Shown) -> Result<Vec<u32>, AllocError>
-    requires { slots ≤ 1024 }
-    ensures { IfOk result (λ owners. owners.items ≡ owners_below (slots + 1) shown.now.sets.items shown.now.rest) }
-{
-    let mut owners = Vec::new(alloc);
-    for owner in 0..slots + 1 {
-        if !owned(shown, owner).rects().is_empty() {
-            owners.push(owner)?;
-        }
-    }
-    Ok(owners)
-}
-
-// What is shown of an owner.
-fn owned<'a>(shown: &'a Shown, owner: u32) -> &'a Region
-    ensures { result.now ≡ owner_in shown.now.sets.items shown.now.rest owner }
-{
-    match shown.sets.get(owner as usize) {
-        Some(set) => set,
-        None => &shown.rest,
-    }
-}
-
-// Adds the pieces that one owner, of which this was shown, loses to others.
+// Adds the pieces that one owner, of which this was shown, loses to slots and to the desktop, which gains the rest.
 fn add_losses(
     alloc: Global,
     from: u32,
     lost: &Region,
-    gaining: &[u32],
-    shown: &Shown,
+    slots: u32,
+    gaining: &[SlotSet],
+    rest: &Region,
     pieces: &mut Vec<Piece>,
 ) -> Result<(), AllocError>
     ensures { OnOk result (pieces.new.items
-        ≡ pieces.old.items ++ losses_to from lost.now shown.now.sets.items shown.now.rest gaining.now) }
+        ≡ pieces.old.items ++ losses_to from lost.now (with_desktop slots gaining.now rest.now)) }
 {
     if lost.rects().is_empty() {
         return Ok(());
     }
-    for to in gaining {
-        add_pieces(alloc, from, lost, *to, owned(shown, *to), pieces)?;
+    for part in gaining {
+        add_pieces(alloc, from, lost, part.slot, &part.set, pieces)?;
     }
-    Ok(())
+    add_pieces(alloc, from, lost, slots, rest, pieces)
 }
 
 // Adds the pieces that one owner, of which this was shown, loses to another one, of which that is shown afterwards.

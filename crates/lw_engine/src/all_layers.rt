@@ -229,13 +229,13 @@ fn looks_of<B: Backfill>(
     Ok(looks)
 }
 
-// What is told of so many slots without a layer.
+// What is told of so many slots without a layer. Of a desk's slots most may have none, so each costs a few instructions alone.
 fn no_looks(alloc: Global, count: usize) -> Result<Vec<Option<Look>>, AllocError>
     ensures { IfOk result (λ looks. looks.items ≡ replicate count None) }
 {
     let mut looks = Vec::with_capacity(alloc, count)?;
     for _slot in 0..count {
-        looks.push(None)?;
+        looks.push_reserved(None);
     }
     Ok(looks)
 }

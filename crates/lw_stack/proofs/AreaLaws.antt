@@ -1,12 +1,12 @@
 -- The regions that a pass over an area keeps: what the layers so far leave of it, and what of each is shown in it.
-use Rattle.std.proofs.Common.{◌≡◌, ◌↔◌, ℕ, ◌+◌, ◌<◌, ◌==◌, Bool, true, false, not, ◌&&◌, ◌||◌, List, [], ◌∷◌, ◌++◌, length, take, drop, get_or, replicate, ℤ, Option, Some, None, refl, sym, ap, ◌∙◌}
+use Rattle.std.proofs.Common.{◌≡◌, ◌↔◌, ℕ, ◌+◌, ◌<◌, ◌==◌, Bool, true, false, not, ◌&&◌, ◌||◌, List, [], ◌∷◌, ◌++◌, length, take, drop, get_or, ℤ, Option, Some, None, refl, sym, ap, ◌∙◌}
 use Rattle.std.specs.Prelude.{IsNone}
 use Rattle.std.specs.Option.{option_or, is_some}
 use Rattle.std.proofs.lemmas.Bool.{false≢true, and_right}
-use Rattle.std.proofs.lemmas.List.{length-replicate, get_or-replicate, take-append-drop, take_more, drop_more}
+use Rattle.std.proofs.lemmas.List.{take-append-drop, take_more, drop_more}
 use Rattle.std.proofs.Math.Bool.{and-true, or-false}
 use Rattle.lw_region.specs.Rectangle.{Rectangle, has_pixel, AreApart}
-use Rattle.lw_region.specs.Pixels.{pixels_of, union, intersection, difference}
+use Rattle.lw_region.specs.Pixels.{pixels_of, intersection, difference}
 use Rattle.lw_region.specs.Bands.{bands, covers}
 use Rattle.lw_region.specs.Regions.{rectangle_set}
 use Rattle.lw_region.proofs.SetOps.{combined_lists, covers_one}
@@ -37,15 +37,14 @@ pub record ArePassedIn (area : List Rectangle) (bounds : List (Option Rectangle)
 
 -- nothing was passed yet, and all of the area is left
 pub none_passed_in : (area : List Rectangle) (bounds : List (Option Rectangle)) (rest : List Rectangle)
-    (sets : List (List Rectangle)) → rest ≡ area → sets ≡ replicate (length bounds) [] → ArePassedIn area bounds [] rest sets
+    (sets : List (List Rectangle)) → rest ≡ area → length sets ≡ length bounds → ((s : ℕ) → get_or sets s [] ≡ [])
+    → ArePassedIn area bounds [] rest sets
 unfolding first_at
-none_passed_in area bounds rest sets e f = record {
+none_passed_in area bounds rest sets e many none = record {
   left = λ x y. ap (λ rects. covers rects x y) e ∙ sym (and-true (covers area x y));
   shown = record {
-    many = ap length f ∙ length-replicate (length bounds) [];
-    places = λ s x y h.
-        no_pixel (get_or sets s []) x y (ap (λ all. get_or all s []) f ∙ get_or-replicate (length bounds) s [] [] h)
-        ∙ sym (and_right (covers area x y) false refl);
+    many = many;
+    places = λ s x y h. no_pixel (get_or sets s []) x y (none s) ∙ sym (and_right (covers area x y) false refl);
   };
 }
 
@@ -114,16 +113,18 @@ pub rest_kept : (a b : Bool) → (a && b) ≡ false → a ≡ (a && not b)
 rest_kept false b e = refl
 rest_kept true b e = sym (ap not e)
 
-pub none_added : (c a b : Bool) → (a && b) ≡ false → c ≡ (c || (a && b))
-none_added c a b e = sym (ap (λ d. c || d) e ∙ or-false c)
+pub none_added : (c a b d : Bool) → (a && b) ≡ false → c ≡ (c || ((a && b) && d))
+none_added c a b d e = sym (ap (λ t. c || (t && d)) e ∙ or-false c)
 
--- what a rectangle has of the rest is added to a set, and taken from the rest
-pub part_added : (rest part both set made : List Rectangle) (rect : Rectangle) → part ≡ rest
-    → both ≡ bands (intersection (pixels_of part) (rectangle_set rect)) → made ≡ bands (union (pixels_of set) (pixels_of both))
-    → (x y : ℤ) → covers made x y ≡ (covers set x y || (covers rest x y && has_pixel rect x y))
-part_added rest part both set made rect e f g x y =
-    (combined_lists.unions set both made g).pixels x y
-    ∙ ap (λ b. covers set x y || b)
+-- what a rectangle has of the rest is added to a slot's set, and taken from the rest
+pub part_added : (rest part both : List Rectangle) (rect : Rectangle) (slot : ℕ) (sets made : List (List Rectangle)) → part ≡ rest
+    → both ≡ bands (intersection (pixels_of part) (rectangle_set rect))
+    → ((s : ℕ) (x y : ℤ) → covers (get_or made s []) x y ≡ (covers (get_or sets s []) x y || (covers both x y && (slot == s))))
+    → (s : ℕ) (x y : ℤ) → covers (get_or made s []) x y
+    ≡ (covers (get_or sets s []) x y || ((covers rest x y && has_pixel rect x y) && (slot == s)))
+part_added rest part both rect slot sets made e f added s x y =
+    added s x y
+    ∙ ap (λ b. covers (get_or sets s []) x y || (b && (slot == s)))
     ((combined_lists.intersections part (rect ∷ []) both f).pixels x y
     ∙ (ap (λ b. covers part x y && b) (covers_one rect x y) ∙ ap (λ rects. covers rects x y && has_pixel rect x y) e))
 

@@ -4,3 +4,4 @@ pub mod ShownLaws
 pub mod AreaLaws
 pub mod ListedLaws
 pub mod DesktopLaws
+pub mod SetsLaws

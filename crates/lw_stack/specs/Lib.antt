@@ -1,3 +1,4 @@
 pub mod Stack
 pub mod Laws
 pub mod Desktop
+pub mod Sets

@@ -1,4 +1,4 @@
-ghost use Rattle.std.specs.Prelude.{◌≡◌, ◌↔◌, ℕ, ◌<◌, ◌==◌, false, not, ◌&&◌, ◌||◌, [], length, replicate, ℤ, IfOk, OnOk, OnErr};
+ghost use Rattle.std.specs.Prelude.{◌≡◌, ◌↔◌, ℕ, ◌<◌, ◌==◌, false, not, ◌&&◌, ◌||◌, [], length, ℤ, IfOk, OnOk, OnErr};
 ghost use Rattle.std.specs.List.{All, slice_index_or};
 ghost use Rattle.std.specs.Option.{is_some};
 ghost use Rattle.lw_region.specs.Rectangle.{has_pixel};
@@ -7,8 +7,9 @@ ghost use Rattle.lw_calls.specs.Limits.{IsWithinLimits};
 ghost use Rattle.lw_machine.specs.Screen.{bounds_have, screen_bounds};
 ghost use Rattle.lw_stack.specs.Stack.{bounds_at, first_at, AreShownIn, LieApart};
 
+use crate::sets::SlotSets;
 use lw_calls::Sizes;
-use lw_region::{Rect, Region, clear_region, or_region};
+use lw_region::{Rect, Region, clear_region};
 use lw_strips::screen_of;
 use std::alloc::{AllocError, Global};
 
@@ -16,7 +17,7 @@ use std::alloc::{AllocError, Global};
 #[derive(Debug, Drop)]
 pub struct Shown {
     /// By slot what is shown of its layer.
-    pub sets: Vec<Region>,
+    pub sets: SlotSets,
     /// What no layer has.
     pub rest: Region,
 }
@@ -37,7 +38,7 @@ pub fn shown_in(
     ensures rest { IfOk result (λ shown. (x y : ℤ) →
         covers shown.rest x y ≡ (covers area.now x y && not (is_some (first_at bounds.now order.now x y)))) }
 {
-    let mut sets = empty_sets(alloc, bounds.len())?;
+    let mut sets = SlotSets::new(alloc, bounds.len());
     // What the layers in front leave of the area.
     let mut rest = area.copy(alloc)?;
     for slot in order {
@@ -49,23 +50,13 @@ pub fn shown_in(
     Ok(Shown { sets, rest })
 }
 
-fn empty_sets(alloc: Global, count: usize) -> Result<Vec<Region>, AllocError>
-    ensures { IfOk result (λ sets. sets.items ≡ replicate count []) }
-{
-    let mut sets = Vec::with_capacity(alloc, count)?;
-    for _slot in 0..count {
-        sets.push(Region::new(alloc))?;
-    }
-    Ok(sets)
-}
-
 // Adds to a slot's set what its bounds have of the rest, which then is without them.
 fn show_in(
     alloc: Global,
     slot: u32,
     bounds: &[Option<Rect>],
     rest: &mut Region,
-    sets: &mut Vec<Region>,
+    sets: &mut SlotSets,
 ) -> Result<(), AllocError>
     requires has_bounds { slot < length bounds.now }
     requires has_set { slot < length sets.old.items }
@@ -78,28 +69,33 @@ fn show_in(
         || ((covers rest.old x y && bounds_have (bounds_at bounds.now slot) x y) && (slot == s)))) }
 {
     match &bounds[slot as usize] {
-        Some(rect) => take_part(alloc, rect, rest, &mut sets[slot as usize]),
+        Some(rect) => take_part(alloc, slot, rect, rest, sets),
         None => Ok(()),
     }
 }
 
-// Adds to the set what the rectangle has of the rest, which then is without it. One that has nothing of it costs no region.
+// Adds to a slot's set what the rectangle has of the rest, which then is without it. One that has nothing of it costs no region.
 fn take_part(
     alloc: Global,
+    slot: u32,
     rect: &Rect,
     rest: &mut Region,
-    set: &mut Region,
+    sets: &mut SlotSets,
 ) -> Result<(), AllocError>
+    requires { slot < length sets.old.items }
+    ensures many { OnOk result (length sets.new.items ≡ length sets.old.items) }
     ensures rest { OnOk result ((x y : ℤ) → covers rest.new x y ≡ (covers rest.old x y && not (has_pixel rect.now x y))) }
-    ensures set { OnOk result ((x y : ℤ) →
-        covers set.new x y ≡ (covers set.old x y || (covers rest.old x y && has_pixel rect.now x y))) }
+    ensures sets { OnOk result ((s : ℕ) (x y : ℤ) →
+        covers (slice_index_or sets.new.items s []) x y
+        ≡ (covers (slice_index_or sets.old.items s []) x y
+        || ((covers rest.old x y && has_pixel rect.now x y) && (slot == s)))) }
 {
     if !meets(rest, rect) {
         return Ok(());
     }
     let mut part = rest.copy(alloc)?;
     part.and_rect(alloc, rect)?;
-    or_region(alloc, &part, set)?;
+    sets.add(alloc, slot, part)?;
     rest.clear_rect(alloc, rect)
 }
 

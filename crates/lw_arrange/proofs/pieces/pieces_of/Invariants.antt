@@ -1,6 +1,6 @@
-use Rattle.std.proofs.Common.{◌≡◌, ◌+◌}
-use Rattle.lw_arrange.specs.Pieces.{all_losses}
+use Rattle.std.proofs.Common.{◌≡◌, take}
+use Rattle.lw_arrange.specs.Pieces.{with_desktop, all_losses}
 use Rattle.lw_arrange.proofs.pieces.pieces_of.Given as goal
 
-abbrev pub invariant-loop-from : goal.invariant-loop-from
-invariant-loop-from l = l.pieces.items ≡ all_losses l.from (l.slots + 1) l.were.sets.items l.were.rest l.shown.sets.items l.shown.rest
+abbrev pub invariant-loop-part : goal.invariant-loop-part
+invariant-loop-part l = l.pieces.items ≡ all_losses (take l.part-index l.losing) (with_desktop l.slots l.gaining l.shown.rest)

@@ -1,4 +1,4 @@
-use Rattle.std.proofs.Common.{◌≡◌, ◌+◌, length, refl, sym, ap, subst, ◌∙◌}
+use Rattle.std.proofs.Common.{◌≡◌, length, refl, sym, ap, subst, ◌∙◌}
 use Rattle.std.specs.List.{All}
 use Rattle.lw_calls.specs.declared.sizes.Sizes.{Sizes}
 use Rattle.lw_cliprects.specs.Parts.{LieIn}
@@ -99,9 +99,22 @@ new-requires-clause-pieces c =
     let P : Sizes → Type 0 = λ z. All (λ p. LiesIn p.rect (screen z.width z.height)) c.in_ok-pieces.pieces.items in
     subst P (sym c.sizes-sizes.ensures.value)
     (pieces_on_screen v c.in_ok-area.area c.in_ok-were.were.sets.items c.in_ok-were.were.rest c.in_ok-shown.shown.sets.items
-    c.in_ok-shown.shown.rest _ c.in_ok-pieces.pieces.items (ap (λ n. n + 1) slots)
+    c.in_ok-shown.shown.rest _ c.in_ok-pieces.pieces.items slots
     (record { many = c.sizes-sizes.ensures.stack.many; shown = c.in_ok-were.ensures.sets; left = c.in_ok-were.ensures.rest }) (area_on_screen v (stack_of v.sizes c.in_ok-after.after) c.args.call.now c.in_ok-area.area (c.in_ok-area.ensures {u = tt}))
     c.in_ok-pieces.ensures)
+
+pub pieces_of-requires-clause-before : goal.pieces_of-requires-clause-before
+pieces_of-requires-clause-before c =
+    c.in_ok-were.ensures.sets.many
+    ∙ (c.sizes-sizes.ensures.stack.many ∙ sym (ap (λ (z : Sizes). z.slots) c.sizes-sizes.ensures.value))
+
+pub pieces_of-requires-clause-after : goal.pieces_of-requires-clause-after
+pieces_of-requires-clause-after c =
+    let sound = subst IsStack (sym (c.in_ok-after.ensures {u = tt}))
+    (after_sound c.args.info.now c.args.looks.now c.args.fresh c.args.task c.args.call.now c.sizes-sizes.ensures.stack c.requires.fits
+    (sym c.refused.ensures ∙ c.in_default.is)) in
+    c.in_ok-shown.ensures.sets.many
+    ∙ (ap length c.as_slice-2.ensures.value ∙ (sound.many ∙ sym (ap (λ (z : Sizes). z.slots) c.sizes-sizes.ensures.value)))
 
 pub returns-clause-pieces : goal.returns-clause-pieces
 returns-clause-pieces c =
@@ -118,7 +131,7 @@ returns-clause-pieces c =
     subst Q (sym c.new.ensures)
     (subst R (sym c.sizes-sizes.ensures.value)
     (are_pieces v (stack_of v.sizes after) c.in_ok-area.area c.in_ok-were.were.sets.items c.in_ok-were.were.rest c.in_ok-shown.shown.sets.items
-    c.in_ok-shown.shown.rest _ c.in_ok-pieces.pieces.items (ap (λ n. n + 1) slots) refl
+    c.in_ok-shown.shown.rest _ c.in_ok-pieces.pieces.items slots refl
     (record { many = c.sizes-sizes.ensures.stack.many; shown = c.in_ok-were.ensures.sets; left = c.in_ok-were.ensures.rest })
     (record {
       many = sound.many;

@@ -9,8 +9,8 @@ use Rattle.lw_stack.proofs.shown.shown_in.Goals as goal
 
 pub loop-slot-init : goal.loop-slot-init
 loop-slot-init c =
-    none_passed_in c.args.area.now c.args.bounds.now c.in_ok-rest.rest c.in_ok-sets.sets.items c.in_ok-rest.ensures
-    c.in_ok-sets.ensures
+    none_passed_in c.args.area.now c.args.bounds.now c.in_ok-rest.rest c.new-sets.result.items c.in_ok-rest.ensures
+    c.new-sets.ensures.many c.new-sets.ensures.none
 
 pub loop-slot-preserved : goal.loop-slot-preserved
 loop-slot-preserved c =

@@ -6,8 +6,8 @@ pub returns-clause-rest : goal.returns-clause-rest
 returns-clause-rest c =
     on_ok_weaker c.clear_rect.result (part_taken c.args.rest.now c.clear_rect.new.self c.args.rect.now) c.clear_rect.ensures.list
 
-pub returns-clause-set : goal.returns-clause-set
-returns-clause-set c =
+pub returns-clause-sets : goal.returns-clause-sets
+returns-clause-sets c =
     on_ok_weaker c.clear_rect.result
-    (λ _. part_added c.args.rest.now c.in_ok-part.part c.and_rect.new.self c.args.set.now c.or_region.new.into c.args.rect.now
-    c.in_ok-part.ensures c.in_ok-and_rect.ensures.list c.in_ok-or_region.ensures.list) c.clear_rect.ensures.list
+    (λ _. part_added c.args.rest.now c.in_ok-part.part c.and_rect.new.self c.args.rect.now c.args.slot c.args.sets.now.items
+    c.add.new.self.items c.in_ok-part.ensures c.in_ok-and_rect.ensures.list c.in_ok-add.ensures.sets) c.clear_rect.ensures.list
