@@ -15,7 +15,7 @@ use Rattle.lw_calls.specs.declared.make.Kind.TheVariants.{Simple, Smart, SuperBi
 use Rattle.lw_cliprects.specs.Parts.{hidden_of, AreDivided}
 use Rattle.lw_layer.specs.Pieces.{buffered, rest_as, rest_of, whole_of}
 use Rattle.lw_layer.specs.Drafts.{IsLiveDraft, layout, visible_planes, buffers_of, own_list, live_view, width_of, height_of}
-use Rattle.lw_layer.specs.Copied.{across_at, down_at, rest_buffers, pen_over, pen_shown, with_kept, with_visible, HaveShown}
+use Rattle.lw_layer.specs.Copied.{across_at, down_at, rest_buffers, pen_over, pen_shown, with_kept, HaveShown}
 use Rattle.lw_layer.specs.declared.draft.LiveDraft.{LiveDraft}
 use Rattle.lw_layer.proofs.BufferLaws.{planes_many, planes_shown, own_buffer, buffer_is}
 use Rattle.lw_layer.proofs.CopyingLaws.{pixel_is}
@@ -152,25 +152,6 @@ visible_pen d x y ok ordered divided shown =
     (ap (λ v. pen_in (buffered l) (buffers_of d) (across_at l (pos i)) v) (sym line) ∙
     (ap (λ t. if t then there else 0) (sym here) ∙
     (pixel.pen 0 ∙ ap (λ t. pen_over 0 (if t then Some (pen_at c.layer.bits i j) else None)) kept))))
-
-where_it_holds : (t : Bool) (a b old : ℕ) → (t ≡ true → a ≡ b) → (if t then a else old) ≡ (if t then b else old)
-where_it_holds true a b old same = same refl
-where_it_holds false a b old same = refl
-
-from_start : (n : ℕ) → pos 0 +ℤ pos n ≡ pos n
-from_start n = omega (arith, ints)
-
--- The visible rectangles laid on the bitmap of the screen are what the layer shows.
-pub visible_laid : (d : LiveDraft) (to : Bitmap) → IsLiveDraft d → IsOrdered d.bounds → AreDivided d.bounds d.parts.visible (hidden_of d.bounds d.parts.visible)
-    → with_buffers (rects_of d.strips.items) (visible_planes d) (pos 0) (pos 0) to ≡ with_visible (live_view d) to
-visible_laid d to ok ordered divided =
-    ap (λ rs. with_buffers rs (visible_planes d) (pos 0) (pos 0) to) ok.shown ∙
-    bitmap_same to.width to.height to.depth _ _
-    (λ x y _ _.
-    let pen : ℤ → ℤ → ℕ = λ u v. if covers d.parts.visible u v then pen_in d.parts.visible (visible_planes d) u v else pen_at to x y in
-    ap (λ u. pen u (pos 0 +ℤ pos y)) (from_start x) ∙
-    (ap (λ v. pen (pos x) v) (from_start y) ∙
-    where_it_holds (covers d.parts.visible (pos x) (pos y)) _ _ (pen_at to x y) (λ shown. visible_pen d x y ok ordered divided shown)))
 
 -- The strips have the pens that the layer shows.
 pub shown_pens : (d : LiveDraft) → IsLiveDraft d → IsOrdered d.bounds → AreDivided d.bounds d.parts.visible (hidden_of d.bounds d.parts.visible) → HaveShown (live_view d) d.strips.items

@@ -1,5 +1,5 @@
 -- What reading a row of one plane of a layer's pixels gives, laying all of them on a bitmap, and the strips that it lends.
-use Rattle.std.specs.Prelude.{◌≡◌, ℕ, ◌+◌, ◌<◌, true, if◌then◌else◌, List, ◌++◌, ℤ, pos, ◌+ℤ◌, ◌-ℤ◌, Option, Some, None}
+use Rattle.std.specs.Prelude.{◌≡◌, ℕ, ◌+◌, ◌<◌, true, List, ◌++◌, ℤ, pos, ◌+ℤ◌, ◌-ℤ◌, Option, Some, None}
 use Rattle.std.specs.Int.{bit_at}
 use Rattle.std.specs.List.{All}
 use Rattle.lw_region.specs.Rectangle.{Rectangle}
@@ -43,10 +43,6 @@ with_kept c x y b = bitmap b.width b.height b.depth (λ i j. pen_over (pen_at b 
 -- the pen of the layer's pixel that lies on the place (x, y) of the screen, for a place that its bounds have
 abbrev pub pen_shown : LiveView → ℕ → ℕ → ℕ
 pen_shown c x y = pen_at c.layer.bits (distance c.bounds.min_x (pos x) + c.layer.scroll_x) (distance c.bounds.min_y (pos y) + c.layer.scroll_y)
-
--- the bitmap of the screen with the layer's pens where it is visible, and all else as it was
-abbrev pub with_visible : LiveView → Bitmap → Bitmap
-with_visible c b = bitmap b.width b.height b.depth (λ x y. if covers c.visible (pos x) (pos y) then pen_shown c x y else pen_at b x y)
 
 -- The strips are solid, have as many planes as the layer, and where it is visible on the screen they have the pens that it shows.
 pub record HaveShown (c : LiveView) (s : List StripView) : Type 0 where

@@ -18,7 +18,7 @@ ghost use Rattle.lw_layer.specs.Lending.{LendsLines};
 ghost use Rattle.lw_layer.specs.Looks.{IsLook};
 ghost use Rattle.lw_layer.specs.StandsFor.{IsSound};
 ghost use Rattle.lw_layer.specs.Runs.{IsRunAt, IsNext, AreAlike};
-ghost use Rattle.lw_layer.specs.Copied.{kept_bit, with_kept, with_visible, HaveShown};
+ghost use Rattle.lw_layer.specs.Copied.{kept_bit, with_kept, HaveShown};
 
 use crate::draft::LiveDraft;
 use crate::look::Look;
@@ -210,16 +210,6 @@ impl Layer {
         ensures { to.new ≡ with_kept self.now x y to.old }
     {
         self.draft.copy_kept(x, y, to);
-    }
-
-    /// Lays the layer's visible pens on the bitmap of the screen: each of its pixels on which the layer is visible gets the pen
-    /// that the layer shows there, and each other one stays as it was. The bitmap has as many planes as the layer. No memory is
-    /// taken.
-    pub fn show(&self, to: &mut Planes)
-        requires { to.old.depth ≡ self.now.layer.bits.depth }
-        ensures { to.new ≡ with_visible self.now to.old }
-    {
-        self.draft.show(to);
     }
 
     /// The visible rectangles, on the screen: the canonical list of the visible region.

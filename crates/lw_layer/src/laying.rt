@@ -6,7 +6,7 @@ ghost use Rattle.lw_buffers.specs.Lookup.{IsNear, with_buffers};
 ghost use Rattle.lw_calls.specs.declared.make.Kind.TheVariants.{SuperBitmap};
 ghost use Rattle.lw_layer.specs.Pieces.{rest_of};
 ghost use Rattle.lw_layer.specs.Drafts.{IsLiveDraft, layout, live_view};
-ghost use Rattle.lw_layer.specs.Copied.{rest_buffers, with_kept, with_visible, HaveShown};
+ghost use Rattle.lw_layer.specs.Copied.{rest_buffers, with_kept, HaveShown};
 
 use crate::draft::LiveDraft;
 use lw_buffers::{lay_buffers, lay_strips};
@@ -28,18 +28,6 @@ impl LiveDraft {
         let top = start(self.bounds.min_y(), self.scroll_y, y);
         self.lay_rest(left, top, to);
         lay_strips(to, left, top, &self.strips);
-    }
-
-    // Lays the pens of the visible rectangles on the bitmap of the screen.
-    pub(crate) fn show(&self, to: &mut Planes)
-        requires sound { IsLiveDraft self.now }
-        requires planes { to.old.depth ≡ self.now.depth }
-        ensures { to.new ≡ with_visible (live_view self.now) to.old }
-    {
-        // Reading these tells the proof that the rectangles cover the bounds.
-        let _ = self.bounds.min_x();
-        let _ = self.parts.hidden();
-        lay_strips(to, 0, 0, &self.strips);
     }
 
     // The strips of the visible rectangles.
