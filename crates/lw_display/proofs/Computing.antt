@@ -17,11 +17,12 @@ use Rattle.lw_machine.specs.Step.{after, reply}
 use Rattle.lw_machine.specs.Report.{plane_lines, planes_part}
 use Rattle.lw_machine.specs.Finals.{shown_set, damage_set}
 use Rattle.lw_grammar.specs.Verbs.{verb_of}
+use Rattle.lw_display.specs.ShowTexts.{show_text}
 
 unfoldable pub reading : Unit {0}
 unfolding digits within row_bit axis_fits verb_of
 reading = tt
 
 unfoldable pub computing : Unit {0}
-unfolding digits within row_bit axis_fits verb_of contains_pixel pixels_of bands grid at pen_of byte_of plane_row top screen is_visible is_kept is_drawable in_inner through_mask with_pens is_on_screen has_coordinates is_no_larger may_lie_at is_at_least portion_fits counts_as_kept some_pixel revealed in_frame in_title is_damaged same_bounds settled_layer after reply plane_lines planes_part shown_set damage_set
+unfolding digits within row_bit axis_fits verb_of contains_pixel pixels_of bands grid at pen_of byte_of plane_row top screen is_visible is_kept is_drawable in_inner through_mask with_pens is_on_screen has_coordinates is_no_larger may_lie_at is_at_least portion_fits counts_as_kept some_pixel revealed in_frame in_title is_damaged same_bounds settled_layer after reply plane_lines planes_part shown_set damage_set show_text
 computing = tt

@@ -5,5 +5,5 @@ mod LinesPass
 mod OrderFew
 mod SceneSteps
 mod SceneAdded
-mod Showable
+pub mod Showable
 pub mod Computing

@@ -17,5 +17,5 @@ display_opened v =
     opened v.height (map (λ (s : SceneInput). s.top) v.scenes) (map (λ (s : SceneInput). s.script.plan.sizes.height) v.scenes)
 
 -- The text of a show.
-abbrev pub show_text : ShowInput → List ℕ
+unfoldable pub show_text : ShowInput → List ℕ
 show_text v = display_text v.width (scene_names v) (after_all v.acts (display_opened v)) (map screen_shown v.scenes)

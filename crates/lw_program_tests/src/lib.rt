@@ -16,9 +16,13 @@ mod tests_cut;
 #[cfg(test)]
 mod tests_demo;
 #[cfg(test)]
+mod tests_display;
+#[cfg(test)]
 mod tests_drawing;
 #[cfg(test)]
 mod tests_first;
+#[cfg(test)]
+mod tests_gzz;
 #[cfg(test)]
 mod tests_hooks;
 #[cfg(test)]

@@ -11,7 +11,7 @@ pub const FIRST_FILL_REPORT: &[u8] =
     b"order 2\n0 0\nplanes 16 4 1\nplane 0\n0000\n6000\n6000\n0000\nvisible w 1\n0 0 7 3\ndamage w 0\nreplies a 2\nok\nok\ndone\n";
 
 const USAGE_LINE: &[u8] =
-    b"usage: layers run|check|replay|audit|demo NUMBER TASKS|ilbm|bitmap NAME\n";
+    b"usage: layers run|check|replay|audit|demo NUMBER TASKS|display|ilbm|bitmap NAME\n";
 
 #[test]
 fn scripts_give_their_reports(rt: HostRuntime) -> Result<(), Fail> {
@@ -29,7 +29,7 @@ fn scripts_give_their_reports(rt: HostRuntime) -> Result<(), Fail> {
 #[test]
 fn words_that_are_no_command_get_the_usage_line(rt: HostRuntime) -> Result<(), Fail> {
     let alloc = rt.alloc();
-    let table: [&[&str]; 17] = [
+    let table: [&[&str]; 18] = [
         &[],
         &["run", "run"],
         &["audit", "1"],
@@ -41,6 +41,7 @@ fn words_that_are_no_command_get_the_usage_line(rt: HostRuntime) -> Result<(), F
         &["demo", "4294967296", "1"],
         &["demo", "7", "2", "x"],
         &["demo", "-1", "2"],
+        &["display", "a"],
         &["ilbm", "a"],
         &["bitmap"],
         &["bitmap", "a", "b"],

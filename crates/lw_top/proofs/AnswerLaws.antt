@@ -11,16 +11,18 @@ use Rattle.lw_canonical.specs.Canonical.{canonical_text}
 use Rattle.lw_grammar.specs.Script.{ScriptInput, SpellsInput}
 use Rattle.lw_grammar.proofs.ScriptRunnable.{spelled_runnable}
 use Rattle.lw_top.specs.declared.status.Status.{Status}
-use Rattle.lw_top.specs.declared.status.Status.TheVariants.{Done, Refused, Usage, ReadFault, WriteFault, NoMemory, TooLong, Differs, BadOrder, BadPicture}
+use Rattle.lw_top.specs.declared.status.Status.TheVariants.{Done, Refused, RefusedOrder, Usage, ReadFault, WriteFault, NoMemory, TooLong, Differs, BadOrder, BadPicture}
 use Rattle.lw_top.specs.declared.words.ScriptCommand.{ScriptCommand}
 use Rattle.lw_top.specs.declared.words.ScriptCommand.TheVariants.{Run, Check, Replay, Audit}
 use Rattle.lw_top.specs.Bitmaps.{IsBitmapOutcome}
-use Rattle.lw_top.specs.Commands.{Asked, OfScript, OfDemo, OfBitmap, output_of, reads_input, reads_with, IsTextFor}
+use Rattle.lw_top.specs.Commands.{Asked, OfScript, OfDemo, OfDisplay, OfBitmap, output_of, reads_input, reads_with, IsTextFor}
 use Rattle.lw_top.specs.Laws.{IsTextOf, IsBadOrderOf, IsDifferenceOf, IsDue, IsUnlessStopped, is_stop, IsInput, IsAnswer, OutcomeTells, AnswerTells, DemoTells, ToldOfWords}
 use Rattle.lw_top.specs.Demo.{demo_text}
+use Rattle.lw_top.specs.Displays.{IsDisplayOutcome}
 use Rattle.lw_top.specs.Outcome.{IsBadLineOf, IsOutcome, IsTaken, Answered, DemoSaid, Promised}
 use Rattle.lw_top.specs.Status.{Says, text_of, input_limit}
 use Rattle.lw_top.proofs.BitmapOutcomes.{bitmap_outcomes}
+use Rattle.lw_top.proofs.DisplayOutcomes.{display_outcomes}
 use Rattle.lw_top.proofs.Outcomes.{one_outcome}
 use Rattle.lw_top.proofs.OutcomeLaws.{AreOutcomes, outcome_tells, told_more, bytes_after_none, said_no_fault, no_write_fault}
 
@@ -76,6 +78,7 @@ told hooks command r source sink h untouched =
       done_of_left = λ e. left tells Done refl e (λ input. (text : List ℕ) × IsTextOf hooks command input text × Wrote text sink) (λ input k. (k.text, (k.outcome.1, k.outcome.2, k.outcome.3), k.written));
       never_usage = λ e. (tells.came Usage refl e).2.outcome.3;
       never_bad_picture = λ place e. (tells.came (BadPicture place) refl e).2.outcome.3;
+      never_refused_order = λ line e. (tells.came (RefusedOrder line) refl e).2.outcome.3;
       read_fault = tells.read_fault;
       too_long = λ e. let k = tells.came TooLong refl e in long k.0 k.1 k.2.outcome.0;
       too_long_of_left = λ e. left tells TooLong refl e (λ input. input_limit < length input) (λ input k. k.outcome.0);
@@ -165,6 +168,19 @@ told_of_words hooks (Some (OfDemo number tasks)) r source sink h usage unread un
       text = λ not_done not_fault. elim h [ inl e ↦ absurd (elim e [ inl d ↦ not_done d.0 | inr d ↦ not_fault d.0 ]) | inr e ↦ nothing_written r sink e (untouched (inr e)) ];
       taken = none_taken source (unread refl);
       source_count = let same = ap (λ (s : Stream). s.faults) (unread refl) in omega (arith, same);
+    }
+told_of_words hooks (Some OfDisplay) r source sink h usage unread untouched =
+    let tells = outcome_tells IsDisplayOutcome display_outcomes r source sink h untouched in
+    record {
+      told = tells;
+      usage = λ e. absurd ((tells.came Usage refl e).2.outcome);
+      only_usage = λ e. absurd (cc);
+      write_fault = tells.write_fault;
+      no_read_fault = h.no_read_fault;
+      no_write_fault = no_write_fault IsDisplayOutcome r source sink h untouched;
+      text = tells.text;
+      taken = h.taken;
+      source_count = h.source_count;
     }
 told_of_words hooks (Some (OfBitmap name)) r source sink h usage unread untouched =
     let tells = outcome_tells (IsBitmapOutcome name) (bitmap_outcomes name) r source sink h untouched in

@@ -5,6 +5,7 @@ mod BitmapOutcomes
 mod CallCount
 mod DamageTold
 mod DemoScreens
+mod DisplayOutcomes
 mod LegalOrders
 mod OrderLength
 mod OutcomeLaws

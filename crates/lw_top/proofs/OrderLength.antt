@@ -7,8 +7,8 @@ use Rattle.lw_area.specs.Areas.{area_rectangles}
 use Rattle.lw_grammar.specs.declared.reason.Reason.{Reason}
 use Rattle.lw_grammar.specs.Demands.{◌>>=◌}
 use Rattle.lw_grammar.specs.Lines.{lines}
-use Rattle.lw_grammar.specs.Statements.{FillAct, Statement, NumbersLine, CallLine, LockLine, UnlockLine, Line, StatementLine, AreaLine}
-use Rattle.lw_grammar.specs.Told.{OpenGroup, Told, area_words, fill_lines, area_lines, stands_for, told_with, told, told_all}
+use Rattle.lw_grammar.specs.Statements.{FillAct, Statement, NumbersLine, CallLine, LockLine, UnlockLine, Line, StatementLine, AreaLine, GzzAct, OpenGzz, BoxGzz, FrontGzz, BehindGzz, InFrontGzz, CloseGzz, GzzLine}
+use Rattle.lw_grammar.specs.Told.{OpenGroup, Told, area_words, fill_lines, area_lines, stands_for, told_with, told, told_all, NamedPair, gzz_lines}
 use Rattle.lw_grammar.specs.Script.{Setting, is_skipped, is_nothing_due, line_read, added, statements_with, Reached, at_the_top, with_line, at_number, end_read, lines_read, ScriptInput, SpellsInput}
 use Rattle.lw_grammar.specs.GoodLines.{IsStatementHere}
 use Rattle.lw_grammar.proofs.AreaLines.{told_added, told_parts}
@@ -31,6 +31,15 @@ area_many None layer (r ∷ rs) t =
     ap (λ (u : Told). u.order) (told_parts (fill_lines layer (r ∷ rs)) (UnlockLine layer ∷ []) locked) ∙ fills_many layer (r ∷ rs) locked
 area_many (Some x) layer (r ∷ rs) t = fills_many layer (r ∷ rs) t
 
+-- what is done with a window of two layers tells none
+gzz_many : (pairs : List NamedPair) (g : List ℕ) (act : GzzAct) (t : Told) → (told_all (gzz_lines pairs g act) t).order ≡ t.order
+gzz_many pairs g (OpenGzz inner kind place r classes title) t = refl
+gzz_many pairs g (BoxGzz r) t = refl
+gzz_many pairs g FrontGzz t = refl
+gzz_many pairs g BehindGzz t = refl
+gzz_many pairs g (InFrontGzz m) t = refl
+gzz_many pairs g CloseGzz t = refl
+
 -- a statement tells at most 64
 statement_many : (s : Setting) (above : List Statement) (f : Statement) → IsStatementHere s above f → many (f ∷ above) ≤ many above + 64
 statement_many s above (NumbersLine zs) h =
@@ -49,6 +58,11 @@ line_many s above line = go (is_skipped line)
     said (AreaLine layer pattern points) h =
         let fs = area_lines (told above).group layer (area_rectangles points (area_words (told above) pattern)) in
         let same : many (added fs above) ≡ many above = ap (λ (t : Told). length t.order) (told_added fs above) ∙ ap length (area_many (told above).group layer (area_rectangles points (area_words (told above) pattern)) (told above)) in
+        omega (arith, same)
+    said (GzzLine g act) h =
+        let fs = gzz_lines (told above).pairs g act in
+        let same : many (added fs above) ≡ many above =
+        ap (λ (t : Told). length t.order) (told_added fs above) ∙ ap length (gzz_many (told above).pairs g act (told above)) in
         omega (arith, same)
 
     at_read : (r : Result Line Reason) → line_read s (told above) line ≡ r → IfOk (r >>= (λ l. Ok (added (stands_for (told above) l) above))) (λ fs. many fs ≤ many above + 64)

@@ -1,4 +1,4 @@
--- The program's commands: which words each has, what it reads, and what it writes for a script or a picture.
+-- The program's commands: which words each has, what it reads, and what it writes for a script.
 use Rattle.std.specs.Prelude.{◌≡◌, ℕ, ◌≤◌, Bool, true, false, IsTrue, ◌&&◌, if◌then◌else◌, List, [], ◌∷◌, codes, bytes_eq, drop, pos, unsigned_abs, Option, Some, None}
 use Rattle.std.specs.Option.{option_map}
 use Rattle.std.specs.String.{string_bytes}
@@ -16,7 +16,7 @@ use Rattle.lw_ilbm.specs.Pictures.{encoded}
 use Rattle.lw_grammar.specs.Tokens.{Token, NumberToken, token_of, is_a_name}
 use Rattle.lw_grammar.specs.Script.{Setting, ScriptInput, reading_with}
 use Rattle.lw_top.specs.declared.words.Command.{Command}
-use Rattle.lw_top.specs.declared.words.Command.TheVariants.{Script, Demo, Bitmap}
+use Rattle.lw_top.specs.declared.words.Command.TheVariants.{Script, Demo, Display, Bitmap}
 use Rattle.lw_top.specs.declared.words.Output.{Output}
 use Rattle.lw_top.specs.declared.words.Output.TheVariants.{Report, Picture}
 use Rattle.lw_top.specs.declared.words.ScriptCommand.{ScriptCommand}
@@ -32,18 +32,25 @@ command_named word =
     else (if bytes_eq word (codes "audit") then Some Audit
     else (if bytes_eq word (codes "ilbm") then Some (Replay Picture) else None))))
 
--- What the words ask for: something with the script in the input, the demo of a number with so many tasks, or the picture in the
--- input as a bitmap of a name.
+-- What the words ask for: something with the script in the input, the demo of a number with so many tasks, what the display in the
+-- input shows, or the picture in the input as a bitmap of a name.
 pub data Asked : Type 0 where
   OfScript : ScriptCommand → Asked
   OfDemo : ℕ → ℕ → Asked
+  OfDisplay : Asked
   OfBitmap : List ℕ → Asked
 
 -- what a command asks for
 abbrev pub asked_by : Command → Asked
 asked_by (Script command) = OfScript command
 asked_by (Demo number tasks) = OfDemo number tasks
+asked_by Display = OfDisplay
 asked_by (Bitmap name) = OfBitmap name.now
+
+-- what one word asks for: `display`, or a command on a script
+abbrev pub asked_in_a_word : List ℕ → Option Asked
+asked_in_a_word word =
+    if bytes_eq word (codes "display") then Some OfDisplay else option_map (λ command. OfScript command) (command_named word)
 
 -- the number that a word of a script is, if it is one from the least to the most
 abbrev pub number_within : ℕ → ℕ → Token → Option ℕ
@@ -59,11 +66,11 @@ demo_of number tasks = None
 abbrev pub bitmap_of : List ℕ → List ℕ → Option Asked
 bitmap_of word name = if bytes_eq word (codes "bitmap") && is_a_name name then Some (OfBitmap name) else None
 
--- What the words ask for, if they are a command: a command on a script, `demo` with a number of 32 bits and a number of 1 to 16
--- tasks, both spelled as in a script, or `bitmap` with a name of a script.
+-- What the words ask for, if they are a command: a command on a script, `display`, `demo` with a number of 32 bits and a number of 1
+-- to 16 tasks, both spelled as in a script, or `bitmap` with a name of a script.
 abbrev pub command_of : {A : Type 0} → List (String A) → Option Asked
 command_of [] = None
-command_of (word ∷ []) = option_map (λ command. OfScript command) (command_named (string_bytes word))
+command_of (word ∷ []) = asked_in_a_word (string_bytes word)
 command_of (word ∷ name ∷ []) = bitmap_of (string_bytes word) (string_bytes name)
 command_of (word ∷ number ∷ tasks ∷ []) =
     if bytes_eq (string_bytes word) (codes "demo")
@@ -75,6 +82,7 @@ command_of (word ∷ number ∷ tasks ∷ other ∷ words) = None
 abbrev pub IsInRange : Asked → Type 0
 IsInRange (OfScript command) = Unit {0}
 IsInRange (OfDemo number tasks) = (1 ≤ tasks) × (tasks ≤ 16)
+IsInRange OfDisplay = Unit {0}
 IsInRange (OfBitmap name) = IsTrue (is_a_name name)
 
 -- The words ask for something that reads the input.

@@ -6,13 +6,14 @@ use Rattle.lw_calls.specs.Orders.{is_legal}
 use Rattle.lw_grammar.specs.Script.{ScriptInput, SpellsInput}
 use Rattle.lw_machine.specs.Hook.{Hook}
 use Rattle.lw_top.specs.declared.status.Status.{Status}
-use Rattle.lw_top.specs.declared.status.Status.TheVariants.{Done, Refused, Usage, ReadFault, WriteFault, NoMemory, TooLong, Differs, BadOrder, BadPicture}
+use Rattle.lw_top.specs.declared.status.Status.TheVariants.{Done, Refused, RefusedOrder, Usage, ReadFault, WriteFault, NoMemory, TooLong, Differs, BadOrder, BadPicture}
 use Rattle.lw_top.specs.declared.words.ScriptCommand.{ScriptCommand}
 use Rattle.lw_top.specs.declared.words.ScriptCommand.TheVariants.{Run, Check, Replay, Audit}
 use Rattle.lw_top.specs.Audit.{IsMachineReport}
 use Rattle.lw_top.specs.Bitmaps.{IsBitmapOutcome}
-use Rattle.lw_top.specs.Commands.{Asked, OfScript, OfDemo, OfBitmap, reads_input, reads_with, behind_script, IsTextFor, IsBadOrderFor, IsDifferenceFor}
+use Rattle.lw_top.specs.Commands.{Asked, OfScript, OfDemo, OfDisplay, OfBitmap, reads_input, reads_with, behind_script, IsTextFor, IsBadOrderFor, IsDifferenceFor}
 use Rattle.lw_top.specs.Demo.{demo_text}
+use Rattle.lw_top.specs.Displays.{IsDisplayOutcome}
 use Rattle.lw_top.specs.Outcome.{IsBadLineOf, IsOutcome, IsTaken, Outcomes, Promised}
 use Rattle.lw_top.specs.Status.{Says, text_of, input_limit}
 
@@ -33,6 +34,9 @@ pub record HasOneOutcome (IsDueOn : Outcomes) (input : List ℕ) : Type 0 where
 
 abbrev pub BitmapsAreDecided : Type 0
 BitmapsAreDecided = (name input : List ℕ) → HasOneOutcome (IsBitmapOutcome name) input
+
+abbrev pub DisplaysAreDecided : Type 0
+DisplaysAreDecided = (input : List ℕ) → HasOneOutcome IsDisplayOutcome input
 
 -- the text is what a command writes for the script that the input spells
 abbrev pub IsTextOf : List Hook → ScriptCommand → List ℕ → List ℕ → Type 0
@@ -103,6 +107,7 @@ pub record AnswerTells (hooks : List Hook) (command : ScriptCommand) (result : S
       → IfSome source.old.bytes (λ input. (text : List ℕ) × IsTextOf hooks command input text × Wrote text sink)
   pub never_usage : result ≡ Usage → ⊥
   pub never_bad_picture : (place : ℕ) → result ≡ BadPicture place → ⊥
+  pub never_refused_order : (line : ℕ) → result ≡ RefusedOrder line → ⊥
   pub read_fault : result ≡ ReadFault → HasFailed source
   pub too_long : result ≡ TooLong → TakesJust (input_limit + 1) source.old.bytes source.new.bytes
   pub too_long_of_left : result ≡ TooLong → IfSome source.old.bytes (λ input. input_limit < length input)
@@ -147,6 +152,7 @@ pub record DemoTells (number tasks : ℕ) (result : Status) (sink : StreamChange
 abbrev pub CommandTells : List Hook → Asked → Status → StreamChange → StreamChange → Type 0
 CommandTells hooks (OfScript command) result source sink = AnswerTells hooks command result source sink
 CommandTells hooks (OfDemo number tasks) result source sink = DemoTells number tasks result sink
+CommandTells hooks OfDisplay result source sink = OutcomeTells IsDisplayOutcome result source sink
 CommandTells hooks (OfBitmap name) result source sink = OutcomeTells (IsBitmapOutcome name) result source sink
 
 -- What an answer to the words of a command line tells, which ask for this, if they are a command.

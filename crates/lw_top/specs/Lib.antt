@@ -4,6 +4,7 @@ pub mod Bitmaps
 pub mod Commands
 pub mod Damage
 pub mod Demo
+pub mod Displays
 pub mod Laws
 pub mod Outcome
 pub mod Run

@@ -9,8 +9,9 @@ use Rattle.lw_top.specs.declared.status.Status.{Status}
 use Rattle.lw_top.specs.declared.status.Status.TheVariants.{Done, Refused, ReadFault, NoMemory, TooLong, Differs, BadOrder}
 use Rattle.lw_top.specs.declared.words.ScriptCommand.{ScriptCommand}
 use Rattle.lw_top.specs.Bitmaps.{IsBitmapOutcome}
-use Rattle.lw_top.specs.Commands.{Asked, OfScript, OfDemo, OfBitmap, reads_with, IsTextFor, IsBadOrderFor, IsDifferenceFor}
+use Rattle.lw_top.specs.Commands.{Asked, OfScript, OfDemo, OfDisplay, OfBitmap, reads_with, IsTextFor, IsBadOrderFor, IsDifferenceFor}
 use Rattle.lw_top.specs.Demo.{demo_text}
+use Rattle.lw_top.specs.Displays.{IsDisplayOutcome}
 use Rattle.lw_top.specs.Status.{Says, text_of, input_limit}
 
 -- The outcome of a command on a script in an input, where these hooks are handed in: it is done, with the command's text; or the
@@ -70,4 +71,5 @@ DemoSaid number tasks result sink = Says (demo_text number tasks) Done result si
 abbrev pub Promised : List Hook → Asked → Status → StreamChange → StreamChange → Type 0
 Promised hooks (OfScript command) result source sink = Answered (IsOutcome hooks command) result source sink
 Promised hooks (OfDemo number tasks) result source sink = DemoSaid number tasks result sink
+Promised hooks OfDisplay result source sink = Answered IsDisplayOutcome result source sink
 Promised hooks (OfBitmap name) result source sink = Answered (IsBitmapOutcome name) result source sink

@@ -2,15 +2,16 @@
 use Rattle.std.specs.Prelude.{◌≡◌, ℕ, ◌⊎◌, List, [], ◌∷◌, ◌++◌, codes}
 use Rattle.lw_io.specs.Streams.{StreamChange, Wrote, WritesPrefix, HasFailed}
 use Rattle.lw_grammar.specs.declared.reason.Reason.{Reason}
-use Rattle.lw_grammar.specs.declared.reason.Reason.TheVariants.{LineTooLong, BadByte, Spacing, Quote, UnknownWord, Misplaced, Form, Range, NoName, DoubleName, Group, TooMany, NoHook, HookUsed, Padding, Missing}
+use Rattle.lw_grammar.specs.declared.reason.Reason.TheVariants.{LineTooLong, BadByte, Spacing, Quote, UnknownWord, Misplaced, Form, Range, NoName, DoubleName, Gzz, Group, TooMany, NoHook, HookUsed, Padding, Missing}
 use Rattle.lw_calls.specs.Written.{line_of, spaced}
 use Rattle.lw_top.specs.declared.status.Status.{Status}
-use Rattle.lw_top.specs.declared.status.Status.TheVariants.{Done, Refused, Usage, ReadFault, WriteFault, NoMemory, TooLong, Differs, BadOrder, BadPicture}
+use Rattle.lw_top.specs.declared.status.Status.TheVariants.{Done, Refused, RefusedOrder, Usage, ReadFault, WriteFault, NoMemory, TooLong, Differs, BadOrder, BadPicture}
 
 -- the exit status of each answer
 abbrev pub number_of : Status → ℕ
 number_of Done = 0
 number_of (Refused line reason) = 1
+number_of (RefusedOrder line) = 1
 number_of Usage = 2
 number_of ReadFault = 3
 number_of WriteFault = 4
@@ -32,6 +33,7 @@ reason_text Form = codes "form"
 reason_text Range = codes "range"
 reason_text NoName = codes "no-name"
 reason_text DoubleName = codes "double-name"
+reason_text Gzz = codes "gzz"
 reason_text Group = codes "group"
 reason_text TooMany = codes "too-many"
 reason_text NoHook = codes "no-hook"
@@ -44,7 +46,8 @@ reason_text Missing = codes "missing"
 abbrev pub text_of : Status → List ℕ
 text_of Done = []
 text_of (Refused line reason) = line_of (codes "refused line" ++ spaced line ++ 32 ∷ reason_text reason)
-text_of Usage = line_of (codes "usage: layers run|check|replay|audit|demo NUMBER TASKS|ilbm|bitmap NAME")
+text_of (RefusedOrder line) = line_of (codes "refused line" ++ spaced line ++ codes " bad-order")
+text_of Usage = line_of (codes "usage: layers run|check|replay|audit|demo NUMBER TASKS|display|ilbm|bitmap NAME")
 text_of ReadFault = []
 text_of WriteFault = []
 text_of NoMemory = []

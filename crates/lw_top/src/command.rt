@@ -5,6 +5,7 @@ ghost use Rattle.lw_top.specs.Outcome.{Promised};
 ghost use Rattle.lw_top.specs.Status.{Says, text_of};
 
 use crate::demo::demo;
+use crate::displays::display_cmd;
 use crate::pictures::bitmap_cmd;
 use crate::say::say;
 use crate::serving::on_script;
@@ -17,14 +18,15 @@ use std::alloc::Global;
 use std::sync::Wait;
 use std::thread::Threads;
 
-const USAGE: &str = "usage: layers run|check|replay|audit|demo NUMBER TASKS|ilbm|bitmap NAME\n";
+const USAGE: &str =
+    "usage: layers run|check|replay|audit|demo NUMBER TASKS|display|ilbm|bitmap NAME\n";
 
 /// The program: does what the words say, without the program's own name, with the source as its
 /// input and the sink as its output, and answers how it went. A script may name the hooks by their
 /// places from 0 on; they fill with the tiles that they have as the call starts. `run` and `demo`
 /// make each task's calls on a thread, tell the gate of each, and may wait, so the call promises no
-/// return; `check`, `replay_cmd`, `audit`, `ilbm_cmd` and `bitmap_cmd`, which it calls for the other
-/// words, return.
+/// return; `check`, `replay_cmd`, `audit`, `display_cmd`, `ilbm_cmd` and `bitmap_cmd`, which it calls for
+/// the other words, return.
 pub fn layers<R: Threads + Wait + Sync, S: Source, K: Sink, G: Gate + Sync>(
     rt: &R,
     alloc: Global,
@@ -59,6 +61,7 @@ pub fn layers<R: Threads + Wait + Sync, S: Source, K: Sink, G: Gate + Sync>(
     match command_of(words) {
         Some(Command::Script(command)) => on_script(rt, alloc, command, source, sink, hooks, gate),
         Some(Command::Demo { number, tasks }) => demo(rt, alloc, number, tasks, sink, gate),
+        Some(Command::Display) => display_cmd(alloc, source, sink),
         Some(Command::Bitmap { name }) => bitmap_cmd(alloc, name, source, sink),
         None => say(sink, USAGE.as_bytes(), Status::Usage),
     }

@@ -1,7 +1,7 @@
 //! Laws of a run and of its answers: each function does nothing, and its contract is the law.
 
 ghost use Rattle.lw_top.specs.Damage.{TextsTellDamageByHistory};
-ghost use Rattle.lw_top.specs.Laws.{AnswersTell, BitmapsAreDecided, OutcomesAreDecided};
+ghost use Rattle.lw_top.specs.Laws.{AnswersTell, BitmapsAreDecided, DisplaysAreDecided, OutcomesAreDecided};
 ghost use Rattle.lw_top.specs.Run.{CallsStandOnce, OneTaskHasOneOrder, ReportsTellTheirOrder};
 
 /// In a legal order, and so in the one that a report prints, each task's calls stand once, and in their order, and nothing else does.
@@ -27,6 +27,11 @@ pub fn outcomes_are_decided()
 /// An input has an outcome where its picture is written as a bitmap of a name, and one only.
 pub fn bitmaps_are_decided()
     ensures { BitmapsAreDecided }
+{}
+
+/// An input has an outcome where the display in it is shown, and one only.
+pub fn displays_are_decided()
+    ensures { DisplaysAreDecided }
 {}
 
 /// What `layers` promises tells, of each answer, what it has to do with the input and what was written; of each input, what

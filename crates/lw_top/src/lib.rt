@@ -5,6 +5,7 @@ mod auditing;
 mod calls;
 mod command;
 mod demo;
+mod displays;
 mod laws;
 mod outcome;
 mod pictures;
@@ -15,9 +16,11 @@ mod status;
 mod words;
 
 pub use command::layers;
+pub use displays::display_cmd;
 pub use laws::{
-    answers_tell, bitmaps_are_decided, calls_stand_once_and_in_order, one_task_has_one_order,
-    outcomes_are_decided, reports_tell_their_order, texts_tell_damage_by_history,
+    answers_tell, bitmaps_are_decided, calls_stand_once_and_in_order, displays_are_decided,
+    one_task_has_one_order, outcomes_are_decided, reports_tell_their_order,
+    texts_tell_damage_by_history,
 };
 pub use lw_backfill::Backfill;
 pub use lw_grammar::Reason;

@@ -152,6 +152,7 @@ fn reason_word(reason: Reason) -> &'static str
         Reason::Range => "range",
         Reason::NoName => "no-name",
         Reason::DoubleName => "double-name",
+        Reason::Gzz => "gzz",
         Reason::Group => "group",
         Reason::TooMany => "too-many",
         Reason::NoHook => "no-hook",

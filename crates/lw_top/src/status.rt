@@ -10,6 +10,8 @@ pub enum Status {
     Done,
     /// The script's first bad line, counted from 1, and its first reason.
     Refused { line: u32, reason: Reason },
+    /// The line, counted from 1, that ends a show's first scene whose order isn't legal: the show's first bad line.
+    RefusedOrder { line: u32 },
     /// The words are no command.
     Usage,
     /// The source failed.
@@ -37,6 +39,7 @@ impl Status {
         match self {
             Status::Done => 0,
             Status::Refused { .. } => 1,
+            Status::RefusedOrder { .. } => 1,
             Status::Usage => 2,
             Status::ReadFault => 3,
             Status::WriteFault => 4,

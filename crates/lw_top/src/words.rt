@@ -1,7 +1,7 @@
 ghost use Rattle.std.specs.Prelude.{◌≡◌, ◌≤◌, pos, Some, None, IfSome, if◌then◌else◌, option_map, unsigned_abs};
 ghost use Rattle.lw_region.specs.Rectangle.{within};
 ghost use Rattle.lw_grammar.specs.Tokens.{token_of, is_a_name};
-ghost use Rattle.lw_top.specs.Commands.{asked_by, bitmap_of, command_named, command_of, demo_of, number_within, IsInRange};
+ghost use Rattle.lw_top.specs.Commands.{asked_by, asked_in_a_word, bitmap_of, command_named, command_of, demo_of, number_within, IsInRange};
 
 use lw_words::{Token, is_text, token_of};
 
@@ -12,6 +12,8 @@ pub enum Command<'a> {
     Script(ScriptCommand),
     /// Run the demo of this number with so many tasks, 1 to 16.
     Demo { number: u32, tasks: u32 },
+    /// Write what the display in the input shows.
+    Display,
     /// Write the picture in the input as a bitmap of this name.
     Bitmap { name: &'a str },
 }
@@ -44,10 +46,7 @@ pub fn command_of(words: &[String]) -> Option<Command<'_>>
     ensures range { IfSome result (λ command. IsInRange (asked_by command)) }
 {
     match words {
-        [word] => match command_named(word.as_bytes()) {
-            Some(command) => Some(Command::Script(command)),
-            None => None,
-        },
+        [word] => command_in_a_word(word.as_bytes()),
         [word, name] => bitmap_of(word.as_bytes(), name.as_str()),
         [word, number, tasks] => {
             if !is_text(word.as_bytes(), b"demo") {
@@ -56,6 +55,20 @@ pub fn command_of(words: &[String]) -> Option<Command<'_>>
             demo_of(number.as_bytes(), tasks.as_bytes())
         }
         _ => None,
+    }
+}
+
+/// The command that one word is, if it is one.
+fn command_in_a_word<'a>(word: &[u8]) -> Option<Command<'a>>
+    ensures is { option_map asked_by result ≡ asked_in_a_word word.now }
+    ensures range { IfSome result (λ command. IsInRange (asked_by command)) }
+{
+    if is_text(word, b"display") {
+        return Some(Command::Display);
+    }
+    match command_named(word) {
+        Some(command) => Some(Command::Script(command)),
+        None => None,
     }
 }
 
