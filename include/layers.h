@@ -1,19 +1,29 @@
-/* Regions and rows of bits, as sets of pixels and as bit planes have them: arrays in and out.
+/* Regions and rows of bits, as sets of pixels and as bit planes have them: arrays in and out. And desks: layers and windows, and
+ * what is drawn on them, behind a handle.
  *
- * What each call makes is proved, for every caller that keeps to this: each pointer is good for its number of elements and isn't
- * null, also where that number is 0, and is aligned for its type; what a call writes (an array, a count, bounds) shares no byte
- * with any other argument of that call; a bool is 0 or 1; and memory comes from one malloc, realloc and free, which the program
- * has. Nothing checks these. Nothing proves that this header declares the calls as they are, or what the C compiler makes. All
- * else the calls test themselves, and answer with a number where it doesn't fit.
+ * What each call makes is proved, for every caller that keeps to this, which nothing checks:
+ * - Each pointer isn't null, also where its number of elements is 0, is good for that number, and is aligned for its type.
+ * - What a call writes (an array, a count, bounds, a reply, a handle) shares no byte with any other argument of that call. Where
+ *   it isn't read too, it needs no value before.
+ * - A bool is 0 or 1, also in a field that the call doesn't read.
+ * - Memory comes from one malloc, realloc and free, which the program has.
+ * - A call runs to its end: no longjmp out of malloc or a signal handler, and no thread that is cancelled in a call.
+ * - A handle (struct lw_desk) is LW_NO_DESK before its first call. From then on only calls of this library change it, nothing
+ *   else reads, writes or frees what it points to, it isn't copied and then used twice, and one call at a time has it.
+ * - No `#pragma pack` holds where this file is included, and the processor has x86-64-v2.
+ * All else the calls test themselves, and answer with a number where it doesn't fit. Nothing proves that this header declares the
+ * calls as they are, what its own functions do, or what the C compiler makes. That lw_desk_close gives all memory back is tested
+ * (valgrind) and not proved.
  *
- * Link with liblayers.a alone; beside malloc, realloc and free it needs memset and memmove. No call keeps anything, so threads may
- * make calls on arrays of their own at once. */
+ * Link with liblayers.a alone; beside malloc, realloc and free it needs memset, memmove and memcpy. No call keeps anything but
+ * in a handle, so threads may make calls on arrays and handles of their own at once. */
 #ifndef LAYERS_H
 #define LAYERS_H
 
 #include <stdbool.h>
 #include <stddef.h>
 #include <stdint.h>
+#include <string.h>
 
 #ifdef __cplusplus
 extern "C" {
@@ -26,7 +36,11 @@ enum lw_answer {
     LW_BAD_RECTANGLE = -2, /* a maximum is below its minimum */
     LW_NO_ROOM = -3,       /* the array for the result is too short; the count says how long it has to be */
     LW_EMPTY = -4,         /* an array of no rectangles has no bounds */
-    LW_OUTSIDE = -5        /* bits that are asked for end past their row, or rows past their array, also where none is asked for */
+    LW_OUTSIDE = -5,       /* bits that are asked for end past their row, or rows past their array, though none is asked for */
+    LW_CLOSED = -6,        /* the handle has no desk */
+    LW_UNFIT = -7,         /* the numbers are no call, or none of a desk of this size: see struct lw_call */
+    LW_BAD_SIZES = -8,     /* no desk has these sizes */
+    LW_IS_OPEN = -9        /* the handle has a desk already */
 };
 
 /* ---- Regions. A rectangle has the columns min_x to max_x and the rows min_y to max_y, all inclusive. A region is an array of
@@ -58,7 +72,7 @@ int32_t lw_region_bounds(const struct lw_rectangle *list, size_t count, struct l
 
 /* ---- Rows of a bit plane. Bit 0 is the most significant bit of the first byte, the leftmost pixel. Each named bit gets its
  * value, and every other bit stays. A minterm's bit 0x80 is the result where the source's bit and the old bit are 1, 0x40 where
- * the source's alone is, 0x20 where the old one alone is, and 0x10 where neither is; its other bits aren't read. ---- */
+ * the source's alone is, 0x20 where the old one alone is, and 0x10 where neither is; its other bits aren't read here. ---- */
 #define LW_COPY_MINTERM 0xc0
 
 int32_t lw_row_fill(uint8_t *row, size_t bytes, uint32_t from, uint32_t count, bool bit);
@@ -82,7 +96,402 @@ int32_t lw_block_blit(uint8_t *to, size_t to_bytes, uint32_t to_step, uint32_t t
 int32_t lw_block_blit_within(uint8_t *block, size_t bytes, uint32_t step, const struct lw_place *to,
                              const struct lw_place *source, uint32_t rows, uint32_t count, uint8_t minterm);
 
-/* What an answer means, for people. */
+/* ---- Desks: a screen, its layers from the front to the back, and what is drawn on them. A layer is named by a slot, from 0 to
+ * `slots` - 1, that the program chooses when it creates the layer; a slot whose layer was deleted may be used again. A register,
+ * 0 to 7, holds a region. docs/DEFINITIONS.md says what each call does, on a desk of version 3. ---- */
+struct lw_desk {
+    void *at;
+    bool is_open;
+};
+
+#define LW_NO_DESK {NULL, false}
+
+struct lw_sizes {
+    uint32_t width, height; /* of the screen, 1 to 2048 */
+    uint32_t depth;         /* bit planes, 1 to 8 */
+    uint32_t slots;         /* how many, up to 1024 */
+};
+
+/* The glyphs of the codes 0x20 to 0x7e, 8 bytes each from the top row; the most significant bit is the leftmost pixel. Any other
+ * code draws an empty cell. */
+struct lw_glyphs {
+    uint8_t rows[95][8];
+};
+
+/* The kinds of layers and a layer to be created. */
+enum lw_layer_kind { LW_SIMPLE = 0, LW_SMART = 1, LW_SUPER_BITMAP = 2 };
+
+struct lw_make {
+    uint32_t kind;
+    int32_t x, y, w, h;      /* the screen's column and row of the top left corner, and the size, 1 to 65536 */
+    uint32_t hook;           /* read where has_hook */
+    uint32_t bits_w, bits_h; /* of a super-bitmap layer's bitmap, 1 to 2048; 0 of another layer */
+    bool has_hook, is_behind, is_backdrop;
+};
+
+/* The calls. */
+enum lw_call_kind {
+    LW_JOIN_RECT, LW_JOIN_REGION, LW_CLEAR_REGION, LW_OPEN_WINDOW, LW_TEXT, LW_SET_TITLE, LW_CREATE, LW_CLOSE, LW_TO_FRONT,
+    LW_TO_BACK, LW_IN_FRONT_OF, LW_MOVE_BY, LW_SIZE_BY, LW_SET_BOX, LW_ACTIVATE, LW_SET_HOOK, LW_WHICH, LW_SET_A, LW_SET_B,
+    LW_SET_MODE, LW_SET_MASK, LW_CLIP, LW_UNCLIP, LW_BEGIN, LW_END, LW_SCROLL, LW_TAKE_MESSAGE, LW_AT, LW_DRAW_TO,
+    LW_WRITE_PIXEL, LW_READ_PIXEL, LW_FILL, LW_SET_RAST, LW_SCROLL_RASTER, LW_PUT, LW_BLIT
+};
+
+#define LW_NO_CALL UINT32_MAX /* a kind that no call has */
+
+enum lw_join { LW_OR = 0, LW_AND = 1, LW_XOR = 2, LW_CLEAR = 3 };
+
+/* A call; the verbs below fill it in. Each kind but LW_WHICH reads `slot`, the first three for a register. Besides:
+ * - LW_JOIN_RECT operation, rect; LW_JOIN_REGION operation, other (the register that is joined to it);
+ * - LW_OPEN_WINDOW make, flag (framed), is_nocare, number (messages), the text; LW_TEXT, LW_SET_TITLE the text;
+ * - LW_CREATE make; LW_IN_FRONT_OF other (a slot); LW_SET_HOOK other (a hook); LW_CLIP other (a register);
+ * - LW_MOVE_BY, LW_SCROLL, LW_WHICH, LW_AT, LW_DRAW_TO, LW_WRITE_PIXEL, LW_READ_PIXEL x, y;
+ * - LW_SIZE_BY w, h; LW_SET_BOX x, y, w, h;
+ * - LW_SET_A, LW_SET_B, LW_SET_MODE, LW_SET_MASK, LW_SET_RAST number; LW_END flag (all was painted again);
+ * - LW_FILL rect; LW_SCROLL_RASTER x, y, rect;
+ * - LW_PUT, LW_BLIT other (the source: a bitmap, a slot), source_x, source_y, x, y, w, h, number (the minterm).
+ *
+ * It is unfit where the kind, the operation or the kind of layer is none of its enum; LW_CLEAR joins two registers; the desk has
+ * no such slot, or a register is above 7; a coordinate or a step isn't from -32768 to 32767; a maximum is below its minimum; a
+ * size of a box or a blit isn't from 1 to 32767, or one of a struct lw_make isn't as told there; a super-bitmap layer shall have
+ * a frame; a mode is above 7, or messages above 31; a blit's minterm has one of its low four bits; or it names a hook or a
+ * bitmap, since a desk of this library has none. */
+struct lw_call {
+    uint32_t kind, slot, other, operation;
+    int32_t x, y, w, h, source_x, source_y;
+    struct lw_rectangle rect;
+    struct lw_make make;
+    uint8_t number;
+    bool flag, is_nocare;
+};
+
+/* What a call is answered. From LW_NOT_OPEN on it is refused, and the desk is as it was. LW_NOT_WRITABLE is also of a pixel that
+ * the layer doesn't keep, so that it can't be read. */
+enum lw_reply_kind {
+    LW_OK, LW_PEN, LW_NOT_WRITABLE, LW_NOTHING, LW_LAYER, LW_RECTANGLES, LW_MESSAGE, LW_NOT_OPEN, LW_ALREADY_OPEN, LW_NOT_WINDOW,
+    LW_NOT_OWNER, LW_BACKDROP, LW_NOT_SUPER, LW_IN_UPDATE, LW_NOT_IN_UPDATE, LW_OUT_OF_BOUNDS, LW_TOO_MANY_RECTANGLES
+};
+
+enum lw_message { LW_REFRESH, LW_NEW_SIZE, LW_CHANGE, LW_ACTIVE, LW_INACTIVE };
+
+struct lw_reply {
+    uint64_t kind;
+    uint64_t number; /* the pen, the slot, how many rectangles, or the message; else 0 */
+};
+
+/* LW_IS_OPEN, LW_BAD_SIZES, LW_NO_MEMORY, or the handle has a new desk with no layer, no hook and no bitmap. */
+int32_t lw_desk_open(struct lw_desk *desk, const struct lw_sizes *sizes, const struct lw_glyphs *glyphs);
+/* LW_CLOSED, or the handle has no desk from then on, and may be opened again. */
+int32_t lw_desk_close(struct lw_desk *desk);
+
+/* Makes a call, with a text where it has one. After LW_CLOSED, LW_UNFIT and LW_NO_MEMORY all is as it was. A reply's rectangles
+ * are written to `rects` where there is room for all of them: 128 are always enough. */
+int32_t lw_desk_call(struct lw_desk *desk, const struct lw_call *call, const uint8_t *text, size_t text_count,
+                     struct lw_reply *reply, struct lw_rectangle *rects, size_t rects_count);
+
+/* ---- The verbs: they only fill a struct in. Each answers an error of lw_answer, below 0, or a reply of lw_reply_kind. What a
+ * reply says besides is written to the verb's last argument, 0 where it says nothing; after an error that stays. It isn't null,
+ * and no text is; a text ends with a 0 byte. A number that its field can't hold is LW_UNFIT.
+ *
+ * The names are the manual's, and so are the arguments and their order, but for these: a slot or a register stands for a layer,
+ * a window, a raster port or a region; lw_create_layer and lw_open_window take a struct lw_make; the other verbs that create a
+ * layer have a name for each flag; lw_join_rect_region and lw_join_region_region stand for OrRectRegion, AndRegionRegion and
+ * their like; lw_text has no count, and lw_set_window_title only the window's title. ---- */
+static inline struct lw_call lw_new_call(uint32_t kind, uint32_t slot)
+{
+    struct lw_call call;
+    memset(&call, 0, sizeof call);
+    call.kind = kind;
+    call.slot = slot;
+    return call;
+}
+
+/* These three have a number that doesn't fit its field refused. */
+static inline void lw_set_number(struct lw_call *call, uint32_t number)
+{
+    if (number > UINT8_MAX)
+        call->kind = LW_NO_CALL;
+    call->number = (uint8_t)number;
+}
+
+static inline void lw_set_rect(struct lw_call *call, int32_t x0, int32_t y0, int32_t x1, int32_t y1)
+{
+    struct lw_rectangle rect = {(int16_t)x0, (int16_t)y0, (int16_t)x1, (int16_t)y1};
+    if (rect.min_x != x0 || rect.min_y != y0 || rect.max_x != x1 || rect.max_y != y1)
+        call->kind = LW_NO_CALL;
+    call->rect = rect;
+}
+
+static inline int32_t lw_size_of(int32_t first, int32_t last)
+{
+    int64_t size = (int64_t)last - first + 1;
+    return size < 1 || size > 65536 ? 0 : (int32_t)size;
+}
+
+static inline int32_t lw_say_rects(struct lw_desk *desk, const struct lw_call *call, const char *text,
+                                   struct lw_rectangle *rects, size_t room, uint64_t *number)
+{
+    struct lw_reply reply = {0, 0};
+    int32_t answer = lw_desk_call(desk, call, (const uint8_t *)text, strlen(text), &reply, rects, room);
+    if (answer < 0)
+        return answer;
+    *number = reply.number;
+    return (int32_t)reply.kind;
+}
+
+static inline int32_t lw_say(struct lw_desk *desk, const struct lw_call *call, const char *text, uint64_t *number)
+{
+    struct lw_rectangle none;
+    return lw_say_rects(desk, call, text, &none, 0, number);
+}
+
+static inline int32_t lw_do(struct lw_desk *desk, const struct lw_call *call)
+{
+    uint64_t number;
+    return lw_say(desk, call, "", &number);
+}
+
+static inline struct lw_make lw_new_make(int32_t x0, int32_t y0, int32_t x1, int32_t y1, uint32_t kind)
+{
+    struct lw_make make;
+    memset(&make, 0, sizeof make);
+    make.kind = kind;
+    make.x = x0;
+    make.y = y0;
+    make.w = lw_size_of(x0, x1);
+    make.h = lw_size_of(y0, y1);
+    return make;
+}
+
+static inline int32_t lw_create_layer(struct lw_desk *desk, uint32_t slot, const struct lw_make *make)
+{
+    struct lw_call call = lw_new_call(LW_CREATE, slot);
+    call.make = *make;
+    return lw_do(desk, &call);
+}
+
+/* A layer of these bounds, all inclusive: in front of the others, behind all but the backdrop layers, or behind all as a backdrop
+ * layer; or in front with a bitmap of its own, of this size, of which lw_scroll_layer shows another portion. */
+static inline int32_t lw_create_upfront_layer(struct lw_desk *desk, uint32_t slot, int32_t x0, int32_t y0, int32_t x1, int32_t y1,
+                                              uint32_t kind)
+{
+    struct lw_make make = lw_new_make(x0, y0, x1, y1, kind);
+    return lw_create_layer(desk, slot, &make);
+}
+
+static inline int32_t lw_create_behind_layer(struct lw_desk *desk, uint32_t slot, int32_t x0, int32_t y0, int32_t x1, int32_t y1,
+                                             uint32_t kind)
+{
+    struct lw_make make = lw_new_make(x0, y0, x1, y1, kind);
+    make.is_behind = true;
+    return lw_create_layer(desk, slot, &make);
+}
+
+static inline int32_t lw_create_backdrop_layer(struct lw_desk *desk, uint32_t slot, int32_t x0, int32_t y0, int32_t x1,
+                                               int32_t y1, uint32_t kind)
+{
+    struct lw_make make = lw_new_make(x0, y0, x1, y1, kind);
+    make.is_behind = true;
+    make.is_backdrop = true;
+    return lw_create_layer(desk, slot, &make);
+}
+
+static inline int32_t lw_create_super_bitmap_layer(struct lw_desk *desk, uint32_t slot, int32_t x0, int32_t y0, int32_t x1,
+                                                   int32_t y1, uint32_t bits_w, uint32_t bits_h)
+{
+    struct lw_make make = lw_new_make(x0, y0, x1, y1, LW_SUPER_BITMAP);
+    make.bits_w = bits_w;
+    make.bits_h = bits_h;
+    return lw_create_layer(desk, slot, &make);
+}
+
+/* `messages` has bit 0 for LW_REFRESH, bit 1 for LW_NEW_SIZE and so on. */
+static inline int32_t lw_open_window(struct lw_desk *desk, uint32_t slot, const struct lw_make *make, bool framed, bool nocare,
+                                     uint32_t messages, const char *title)
+{
+    uint64_t number;
+    struct lw_call call = lw_new_call(LW_OPEN_WINDOW, slot);
+    call.make = *make;
+    call.flag = framed;
+    call.is_nocare = nocare;
+    lw_set_number(&call, messages);
+    return lw_say(desk, &call, title, &number);
+}
+
+/* To delete a layer and to close a window are one call, and either verb does both. */
+#define LW_VERB(name, call_kind)                                               \
+    static inline int32_t name(struct lw_desk *desk, uint32_t slot)            \
+    {                                                                          \
+        struct lw_call call = lw_new_call(call_kind, slot);                    \
+        return lw_do(desk, &call);                                             \
+    }
+LW_VERB(lw_delete_layer, LW_CLOSE)
+LW_VERB(lw_close_window, LW_CLOSE)
+LW_VERB(lw_upfront_layer, LW_TO_FRONT)
+LW_VERB(lw_behind_layer, LW_TO_BACK)
+LW_VERB(lw_activate_window, LW_ACTIVATE)
+LW_VERB(lw_begin_update, LW_BEGIN)
+LW_VERB(lw_clear_region, LW_CLEAR_REGION)
+#undef LW_VERB
+
+#define LW_VERB(name, call_kind, field, type)                                  \
+    static inline int32_t name(struct lw_desk *desk, uint32_t slot, type it)   \
+    {                                                                          \
+        struct lw_call call = lw_new_call(call_kind, slot);                    \
+        call.field = it;                                                       \
+        return lw_do(desk, &call);                                             \
+    }
+LW_VERB(lw_move_layer_in_front_of, LW_IN_FRONT_OF, other, uint32_t)
+LW_VERB(lw_install_layer_hook, LW_SET_HOOK, other, uint32_t)
+LW_VERB(lw_end_update, LW_END, flag, bool)
+#undef LW_VERB
+
+#define LW_VERB(name, call_kind)                                                   \
+    static inline int32_t name(struct lw_desk *desk, uint32_t slot, uint32_t it)   \
+    {                                                                              \
+        struct lw_call call = lw_new_call(call_kind, slot);                        \
+        lw_set_number(&call, it);                                                  \
+        return lw_do(desk, &call);                                                 \
+    }
+LW_VERB(lw_set_a_pen, LW_SET_A)
+LW_VERB(lw_set_b_pen, LW_SET_B)
+LW_VERB(lw_set_dr_md, LW_SET_MODE)
+LW_VERB(lw_set_write_mask, LW_SET_MASK)
+LW_VERB(lw_set_rast, LW_SET_RAST)
+#undef LW_VERB
+
+#define LW_VERB(name, call_kind, first, second)                                                \
+    static inline int32_t name(struct lw_desk *desk, uint32_t slot, int32_t one, int32_t two)  \
+    {                                                                                          \
+        struct lw_call call = lw_new_call(call_kind, slot);                                    \
+        call.first = one;                                                                      \
+        call.second = two;                                                                     \
+        return lw_do(desk, &call);                                                             \
+    }
+LW_VERB(lw_move_layer, LW_MOVE_BY, x, y)
+LW_VERB(lw_size_layer, LW_SIZE_BY, w, h)
+LW_VERB(lw_scroll_layer, LW_SCROLL, x, y)
+LW_VERB(lw_move, LW_AT, x, y)
+LW_VERB(lw_draw, LW_DRAW_TO, x, y)
+LW_VERB(lw_write_pixel, LW_WRITE_PIXEL, x, y)
+#undef LW_VERB
+
+static inline int32_t lw_change_window_box(struct lw_desk *desk, uint32_t slot, int32_t left, int32_t top, int32_t width,
+                                           int32_t height)
+{
+    struct lw_call call = lw_new_call(LW_SET_BOX, slot);
+    call.x = left;
+    call.y = top;
+    call.w = width;
+    call.h = height;
+    return lw_do(desk, &call);
+}
+
+static inline int32_t lw_rect_fill(struct lw_desk *desk, uint32_t slot, int32_t x0, int32_t y0, int32_t x1, int32_t y1)
+{
+    struct lw_call call = lw_new_call(LW_FILL, slot);
+    lw_set_rect(&call, x0, y0, x1, y1);
+    return lw_do(desk, &call);
+}
+
+static inline int32_t lw_scroll_raster(struct lw_desk *desk, uint32_t slot, int32_t dx, int32_t dy, int32_t x0, int32_t y0,
+                                       int32_t x1, int32_t y1)
+{
+    struct lw_call call = lw_new_call(LW_SCROLL_RASTER, slot);
+    call.x = dx;
+    call.y = dy;
+    lw_set_rect(&call, x0, y0, x1, y1);
+    return lw_do(desk, &call);
+}
+
+/* LW_COPY_MINTERM copies the pixels. */
+static inline int32_t lw_clip_blit(struct lw_desk *desk, uint32_t source, int32_t source_x, int32_t source_y, uint32_t slot,
+                                   int32_t x, int32_t y, int32_t w, int32_t h, uint32_t minterm)
+{
+    struct lw_call call = lw_new_call(LW_BLIT, slot);
+    call.other = source;
+    call.source_x = source_x;
+    call.source_y = source_y;
+    call.x = x;
+    call.y = y;
+    call.w = w;
+    call.h = h;
+    lw_set_number(&call, minterm);
+    return lw_do(desk, &call);
+}
+
+static inline int32_t lw_text(struct lw_desk *desk, uint32_t slot, const char *text)
+{
+    uint64_t number;
+    struct lw_call call = lw_new_call(LW_TEXT, slot);
+    return lw_say(desk, &call, text, &number);
+}
+
+static inline int32_t lw_set_window_title(struct lw_desk *desk, uint32_t slot, const char *title)
+{
+    uint64_t number;
+    struct lw_call call = lw_new_call(LW_SET_TITLE, slot);
+    return lw_say(desk, &call, title, &number);
+}
+
+/* LW_PEN with the pixel's pen in `pen`; LW_LAYER with the slot in `slot`; LW_MESSAGE with one of lw_message in `message`. */
+static inline int32_t lw_read_pixel(struct lw_desk *desk, uint32_t slot, int32_t x, int32_t y, uint64_t *pen)
+{
+    struct lw_call call = lw_new_call(LW_READ_PIXEL, slot);
+    call.x = x;
+    call.y = y;
+    return lw_say(desk, &call, "", pen);
+}
+
+static inline int32_t lw_which_layer(struct lw_desk *desk, int32_t x, int32_t y, uint64_t *slot)
+{
+    struct lw_call call = lw_new_call(LW_WHICH, 0);
+    call.x = x;
+    call.y = y;
+    return lw_say(desk, &call, "", slot);
+}
+
+static inline int32_t lw_get_message(struct lw_desk *desk, uint32_t slot, uint64_t *message)
+{
+    struct lw_call call = lw_new_call(LW_TAKE_MESSAGE, slot);
+    return lw_say(desk, &call, "", message);
+}
+
+/* Joins a rectangle to a register by LW_OR, LW_AND, LW_XOR or LW_CLEAR, or one register to another by one of the first three. */
+static inline int32_t lw_join_rect_region(struct lw_desk *desk, uint32_t join, uint32_t region, struct lw_rectangle rect)
+{
+    struct lw_call call = lw_new_call(LW_JOIN_RECT, region);
+    call.operation = join;
+    call.rect = rect;
+    return lw_do(desk, &call);
+}
+
+static inline int32_t lw_join_region_region(struct lw_desk *desk, uint32_t join, uint32_t source, uint32_t into)
+{
+    struct lw_call call = lw_new_call(LW_JOIN_REGION, into);
+    call.operation = join;
+    call.other = source;
+    return lw_do(desk, &call);
+}
+
+/* Installs a copy of a register, or removes the clip region. LW_RECTANGLES where there was one before: `count` says how many
+ * rectangles that has, and they are in `old` only where `room` isn't below `count`. */
+static inline int32_t lw_install_clip_region(struct lw_desk *desk, uint32_t slot, uint32_t region, struct lw_rectangle *old,
+                                             size_t room, uint64_t *count)
+{
+    struct lw_call call = lw_new_call(LW_CLIP, slot);
+    call.other = region;
+    return lw_say_rects(desk, &call, "", old, room, count);
+}
+
+static inline int32_t lw_remove_clip_region(struct lw_desk *desk, uint32_t slot, struct lw_rectangle *old, size_t room,
+                                            uint64_t *count)
+{
+    struct lw_call call = lw_new_call(LW_UNCLIP, slot);
+    return lw_say_rects(desk, &call, "", old, room, count);
+}
+
+/* What an answer of the calls on regions, rows and blocks means, or an error of any call, for people. */
 static inline const char *lw_text_of(int32_t answer)
 {
     switch (answer) {
@@ -98,8 +507,57 @@ static inline const char *lw_text_of(int32_t answer)
         return "there is no rectangle";
     case LW_OUTSIDE:
         return "bits or rows lie outside";
+    case LW_CLOSED:
+        return "the handle has no desk";
+    case LW_UNFIT:
+        return "the call doesn't fit the desk";
+    case LW_BAD_SIZES:
+        return "no desk has these sizes";
+    case LW_IS_OPEN:
+        return "the handle has a desk already";
     default:
         return answer == 1 ? "the rectangles have the pixel" : "unknown";
+    }
+}
+
+/* The same of a verb's answer: a reply or an error. */
+static inline const char *lw_reply_text(int32_t answer)
+{
+    switch (answer) {
+    case LW_PEN:
+        return "the pixel's pen";
+    case LW_NOT_WRITABLE:
+        return "the pixel can't be written or read";
+    case LW_NOTHING:
+        return "there is nothing";
+    case LW_LAYER:
+        return "a layer's slot";
+    case LW_RECTANGLES:
+        return "a region's rectangles";
+    case LW_MESSAGE:
+        return "a message";
+    case LW_NOT_OPEN:
+        return "the slot has no layer";
+    case LW_ALREADY_OPEN:
+        return "the slot has a layer already";
+    case LW_NOT_WINDOW:
+        return "the layer is no window";
+    case LW_NOT_OWNER:
+        return "the window is another task's";
+    case LW_BACKDROP:
+        return "the layer is a backdrop layer";
+    case LW_NOT_SUPER:
+        return "the layer has no bitmap of its own";
+    case LW_IN_UPDATE:
+        return "the layer is in an update";
+    case LW_NOT_IN_UPDATE:
+        return "the layer is in no update";
+    case LW_OUT_OF_BOUNDS:
+        return "the layer, its portion or the cursor would be out of bounds";
+    case LW_TOO_MANY_RECTANGLES:
+        return "the region would have more than 128 rectangles";
+    default:
+        return answer <= LW_OK ? lw_text_of(answer) : "unknown";
     }
 }
 

@@ -1,4 +1,4 @@
-/* Every call of the library on random arrays, beside the same thing done pixel by pixel and bit by bit, and every error but want of
+/* Every call on arrays, of random ones, beside the same thing done pixel by pixel and bit by bit, and every error but want of
  * memory. */
 #include <layers.h>
 #include <stdio.h>
