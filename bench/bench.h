@@ -9,6 +9,7 @@ int64_t lw_bench_regions(uint32_t shape, uint16_t size, uint32_t operation, uint
 uint32_t lw_bench_row(uint32_t kernel, uint32_t bytes, uint32_t bit, uint8_t minterm, uint32_t repetitions,
                       uint32_t seed);
 int64_t lw_bench_areas(uint32_t shape, uint32_t repetitions, uint32_t seed);
+int64_t lw_bench_pictures(uint32_t kind, uint32_t reads, uint32_t repetitions, uint32_t seed);
 int64_t lw_bench_drawing(uint32_t shape, int16_t side, uint32_t planes, uint32_t repetitions);
 int64_t lw_bench_fronts(uint32_t slots, uint32_t layers, uint32_t repetitions);
 
@@ -51,6 +52,9 @@ void loop_shift_exclusive_or(uint8_t *row, const uint8_t *source, uint32_t bytes
 int bench_regions(void);
 int bench_rows(void);
 int bench_areas(void);
+
+// Prints the table of pictures.
+void bench_pictures(void);
 
 // Prints the table of drawing calls.
 void bench_drawing(void);

@@ -32,6 +32,10 @@ int main(int count, char **words) {
         disagreements += bench_areas();
         puts("");
     }
+    if (all || strcmp(words[1], "pictures") == 0) {
+        bench_pictures();
+        puts("");
+    }
     if (all || strcmp(words[1], "drawing") == 0) {
         bench_drawing();
     }

@@ -1,6 +1,6 @@
 #!/bin/sh
-# Builds the static library and the benchmarks, and runs them. An argument, `regions`, `rows`, `areas` or
-# `drawing`, runs one of the four alone.
+# Builds the static library and the benchmarks, and runs them. An argument, `regions`, `rows`, `areas`,
+# `pictures` or `drawing`, runs one of the five alone.
 set -eu
 
 bench=$(cd "$(dirname "$0")" && pwd)

@@ -10,6 +10,7 @@ mod boxes;
 mod drawing;
 mod generator;
 mod operation;
+mod pictures;
 mod regions;
 mod rows;
 mod settings;
@@ -49,6 +50,25 @@ pub extern "C" fn lw_bench_areas(alloc: Global, shape: u32, repetitions: u32, se
     ensures unknown { 2 < shape → result ≡ negsuc 0 }
 {
     match areas::counted(alloc, shape, repetitions, seed) {
+        Some(count) => i64::from(count),
+        None => -1,
+    }
+}
+
+/// How many bytes the ILBM file of a picture of 2048 by 2048 pixels with 8 planes has, or, where `reads` isn't 0, how many rows the picture
+/// read from it has. Kind 0 has pen 0 all over, 1 squares of 32 by 32 pixels, and any other noise, which `seed` begins. It is written, or
+/// read, `repetitions` times; for none the answer is 0. It is -1 where memory runs out.
+#[unsafe(no_mangle)]
+pub extern "C" fn lw_bench_pictures(
+    alloc: Global,
+    kind: u32,
+    reads: u32,
+    repetitions: u32,
+    seed: u32,
+) -> i64
+    ensures { negsuc 0 ≤ℤ result }
+{
+    match pictures::counted(alloc, kind, reads != 0, repetitions, seed) {
         Some(count) => i64::from(count),
         None => -1,
     }
