@@ -1,5 +1,6 @@
 //! Tests of the desk by what its crates export: the plan of an arrangement, calls behind locks, tasks on threads, a desk that was
-//! not closed, slots that are opened again, layers over the edges of the screen, and 1,024 slots.
+//! not closed, slots that are opened again, layers over the edges of the screen, parts of the screen, and 1,024
+//! slots.
 #![tactic(auto)]
 
 #[cfg(test)]
@@ -10,6 +11,8 @@ mod tests_arrange;
 mod tests_closing;
 #[cfg(test)]
 mod tests_overlap;
+#[cfg(test)]
+mod tests_part;
 #[cfg(test)]
 mod tests_tasks;
 #[cfg(test)]

@@ -25,7 +25,7 @@ use Rattle.lw_engine.specs.Owners.{all_strips, IsAssembled}
 use Rattle.lw_engine.proofs.OwnersLaws.{are_whole}
 
 -- a slot's layer is shown where it is on top by the list
-top_shown : (v : Stack) (cells : List CellView) (d : Desk) (s : ℕ) → AreOfDesk v cells d → top_set v s ≡ shown_set d s
+pub top_shown : (v : Stack) (cells : List CellView) (d : Desk) (s : ℕ) → AreOfDesk v cells d → top_set v s ≡ shown_set d s
 unfolding top_set shown_set
 top_shown v cells d s stands =
     let same : (λ x y. is_top_in v s (pos x) (pos y)) ≡ (λ x y. is_shown d s (pos x) (pos y)) = λ i. λ x y. (sym (shown_is_top v d stands.sizes stands.info s (pos x) (pos y))) i in

@@ -88,7 +88,7 @@ laid_before w h depth strips rest old new was is =
     laid ss = laying.blank (screen w h) depth ss ∙ laying.whole w h depth ss
 
 -- what is assembled has the size and the planes of the screen
-extent : (n : ℕ) → n ≡ unsigned_abs (((pos n -ℤ pos 1) +ℤ pos 1) -ℤ pos 0)
+pub extent : (n : ℕ) → n ≡ unsigned_abs (((pos n -ℤ pos 1) +ℤ pos 1) -ℤ pos 0)
 extent n = omega (arith, ints)
 
 pub laid_size : (v : Stack) (cells : List CellView) (planes : Bitmap) (window : Rectangle) → window ≡ screen v.sizes.width v.sizes.height

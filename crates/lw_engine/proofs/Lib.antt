@@ -11,6 +11,7 @@ pub mod ReadyLists
 pub mod OwnersLaws
 pub mod FinishedScreen
 pub mod FinishedLast
+pub mod ScreenPartLaws
 pub mod ArrangingLists
 pub mod ArrangingDesks
 pub mod HookSetting

@@ -42,7 +42,7 @@ use Rattle.lw_stack.proofs.FirstLaws.{not_top, top_off_screen}
 use Rattle.lw_arrange.specs.Pieces.{is_owner, owner_has}
 use Rattle.lw_arrange.proofs.PieceLaws.{first_is_top}
 use Rattle.lw_engine.specs.Desks.{cell_at, AreOfDesk}
-use Rattle.lw_engine.specs.Owners.{AreStripsOfLayer, AreStripsIn, AreLent, all_strips, strips_at, HaveBuffers, without_hook, IsMadeOf, IsCutUp, AreWhole}
+use Rattle.lw_engine.specs.Owners.{AreStripsOfLayer, AreStripsIn, AreStripsOf, AreLent, all_strips, strips_at, HaveBuffers, without_hook, IsMadeOf, IsCutUp, AreWhole}
 
 -- no strip has the place
 none_at : (strips : List StripView) (x y : ℤ)
@@ -186,12 +186,8 @@ is_made_of c draft sound is =
     let bare : P (without_hook c) = subst P is own in
     record { strips = bare.strips; hidden = bare.hidden; sizes = bare.sizes }
 
--- Where a list of layers and cells stand for a desk, and these are the strips of all owners.
-module _ (v : Stack) (cells : List CellView) (d : Desk) (layers : List (List StripView)) (desktop : List StripView)
-    (many : length cells ≡ v.sizes.slots) (stands : AreOfDesk v cells d) (lent : AreLent v cells layers desktop) where
-  as_many : length layers ≡ v.sizes.slots
-  as_many = lent.slots.many ∙ many
-
+-- Where a list of layers and cells stand for a desk.
+module _ (v : Stack) (cells : List CellView) (d : Desk) (stands : AreOfDesk v cells d) where
   -- a slot without bounds is on top of no place
   never_top : (k : ℕ) (x y : ℤ) → d.bounds k ≡ None → is_top_in v k x y ≡ false
   never_top k x y none = not_top v k x y (ap (λ o. bounds_have o x y) (sym (stands.info.bounds k) ∙ none))
@@ -208,11 +204,10 @@ module _ (v : Stack) (cells : List CellView) (d : Desk) (layers : List (List Str
       ]
 
   -- what the strips of a slot are
-  slot_is : (k : ℕ) → k < v.sizes.slots
-      → AreDisjoint (get_or layers k []) × ((x y : ℤ) → covers (rects_of (get_or layers k [])) x y ≡ is_top_in v k x y)
-  slot_is k below =
-      by_state (cell_at cells k).state (cell_at cells k).live (get_or layers k []) (stands.slots k below)
-      (lent.slots.each k (omega (arith, below, many)))
+  pub slot_is : (k : ℕ) (strips : List StripView) → k < v.sizes.slots → AreStripsOf (cell_at cells k) strips
+      → AreDisjoint strips × ((x y : ℤ) → covers (rects_of strips) x y ≡ is_top_in v k x y)
+  slot_is k strips below told =
+      by_state (cell_at cells k).state (cell_at cells k).live strips (stands.slots k below) told
     where
       idle : (strips : List StripView) → d.bounds k ≡ None → strips ≡ []
           → AreDisjoint strips × ((x y : ℤ) → covers (rects_of strips) x y ≡ is_top_in v k x y)
@@ -230,8 +225,45 @@ module _ (v : Stack) (cells : List CellView) (d : Desk) (layers : List (List Str
         λ x y. ap (λ rs. covers rs x y) told.rects ∙ (sym (part.shown x y) ∙ shown_is_top v d stands.sizes stands.info k x y),
       )
 
+  -- and their pens are those that the screen shows
+  pub slot_pens : (k : ℕ) (strips : List StripView) → k < v.sizes.slots → AreStripsOf (cell_at cells k) strips → (x y : ℕ)
+      → covers (rects_of strips) (pos x) (pos y) ≡ true
+      → pen_in strips (pos x) (pos y) ≡ pen_of_top d (top d (pos x) (pos y)) (pos x) (pos y)
+  slot_pens k strips below told x y has =
+      by_state (cell_at cells k).state (cell_at cells k).live strips (stands.slots k below) told has
+    where
+      nothing : (strips : List StripView) → strips ≡ [] → covers (rects_of strips) (pos x) (pos y) ≡ true → ⊥
+      nothing strips empty has =
+          false≢true (sym (ap (λ ss. covers (rects_of ss) (pos x) (pos y)) empty ∙ covers_nil (pos x) (pos y)) ∙ has)
+
+      by_state : (s : State) (c : LiveView) (strips : List StripView) → IsPartOf s c (slot_part d k) → AreStripsIn s c strips
+          → covers (rects_of strips) (pos x) (pos y) ≡ true
+          → pen_in strips (pos x) (pos y) ≡ pen_of_top d (top d (pos x) (pos y)) (pos x) (pos y)
+      by_state view.Unopened c strips part empty has = absurd (nothing strips empty has)
+      by_state view.Closed c strips part empty has = absurd (nothing strips empty has)
+      by_state view.Live c strips part told has =
+          let visible : covers c.visible (pos x) (pos y) ≡ true = sym (ap (λ rs. covers rs (pos x) (pos y)) told.rects) ∙ has in
+          let on_top : top d (pos x) (pos y) ≡ Some k = the_one (top d (pos x) (pos y)) k (part.shown (pos x) (pos y) ∙ visible) in
+          told.shown.pens x y visible
+          ∙ (ap (λ b. pen_on b (layer.Live c.layer) (pos x) (pos y)) (sym part.bounds)
+          ∙ (ap (λ s. pen_on (d.bounds k) s (pos x) (pos y)) (sym part.slot)
+          ∙ sym (ap (λ o. pen_of_top d o (pos x) (pos y)) on_top)))
+
+-- And these are the strips of all owners.
+module _ (v : Stack) (cells : List CellView) (d : Desk) (layers : List (List StripView)) (desktop : List StripView)
+    (many : length cells ≡ v.sizes.slots) (stands : AreOfDesk v cells d) (lent : AreLent v cells layers desktop) where
+  as_many : length layers ≡ v.sizes.slots
+  as_many = lent.slots.many ∙ many
+
+  lent_at : (k : ℕ) → k < v.sizes.slots → AreStripsOf (cell_at cells k) (get_or layers k [])
+  lent_at k below = lent.slots.each k (omega (arith, below, many))
+
+  lent_is : (k : ℕ) → k < v.sizes.slots
+      → AreDisjoint (get_or layers k []) × ((x y : ℤ) → covers (rects_of (get_or layers k [])) x y ≡ is_top_in v k x y)
+  lent_is k below = slot_is v cells d stands k (get_or layers k []) below (lent_at k below)
+
   slot_at : (k : ℕ) → k < v.sizes.slots → (x y : ℤ) → strips_at (get_or layers k []) x y ≡ bit_of (is_top_in v k x y)
-  slot_at k below x y = let is = slot_is k below in one_at (get_or layers k []) is.0 x y ∙ ap bit_of (is.1 x y)
+  slot_at k below x y = let is = lent_is k below in one_at (get_or layers k []) is.0 x y ∙ ap bit_of (is.1 x y)
 
   -- and those of the desktop
   desktop_at : (x y : ℤ) → strips_at desktop x y
@@ -253,7 +285,7 @@ module _ (v : Stack) (cells : List CellView) (d : Desk) (layers : List (List Str
       slot_at k (omega (arith, below, as_many)) x y ∙ ap (λ n. bit_of (is_top_in v n x y)) same) in
       let bare = desktop_at x y in
       let whole = by_top (has_pixel (screen_bounds v.sizes) x y) (top_in v x y) (top_off_screen v x y)
-      (λ s is. omega (arith, as_many, top_below s x y is)) in
+      (λ s is. omega (arith, as_many, top_below v cells d stands s x y is)) in
       omega (arith, all, bare, whole)
     where
       by_top : (on : Bool) (o : Option ℕ) → (on ≡ false → o ≡ None) → ((s : ℕ) → o ≡ Some s → s < length layers)
@@ -290,25 +322,8 @@ module _ (v : Stack) (cells : List CellView) (d : Desk) (layers : List (List Str
       each : (k : ℕ) → k < length layers → covers (rects_of (get_or layers k [])) (pos x) (pos y) ≡ true
           → pen_in (get_or layers k []) (pos x) (pos y) ≡ pen_of_top d (top d (pos x) (pos y)) (pos x) (pos y)
       each k below has =
-          by_state (cell_at cells k).state (cell_at cells k).live (get_or layers k []) (stands.slots k (omega (arith, below, as_many)))
-          (lent.slots.each k (omega (arith, below, lent.slots.many))) has
-        where
-          nothing : (strips : List StripView) → strips ≡ [] → covers (rects_of strips) (pos x) (pos y) ≡ true → ⊥
-          nothing strips empty has =
-              false≢true (sym (ap (λ ss. covers (rects_of ss) (pos x) (pos y)) empty ∙ covers_nil (pos x) (pos y)) ∙ has)
-
-          by_state : (s : State) (c : LiveView) (strips : List StripView) → IsPartOf s c (slot_part d k) → AreStripsIn s c strips
-              → covers (rects_of strips) (pos x) (pos y) ≡ true
-              → pen_in strips (pos x) (pos y) ≡ pen_of_top d (top d (pos x) (pos y)) (pos x) (pos y)
-          by_state view.Unopened c strips part empty has = absurd (nothing strips empty has)
-          by_state view.Closed c strips part empty has = absurd (nothing strips empty has)
-          by_state view.Live c strips part told has =
-              let visible : covers c.visible (pos x) (pos y) ≡ true = sym (ap (λ rs. covers rs (pos x) (pos y)) told.rects) ∙ has in
-              let on_top : top d (pos x) (pos y) ≡ Some k = the_one (top d (pos x) (pos y)) k (part.shown (pos x) (pos y) ∙ visible) in
-              told.shown.pens x y visible
-              ∙ (ap (λ b. pen_on b (layer.Live c.layer) (pos x) (pos y)) (sym part.bounds)
-              ∙ (ap (λ s. pen_on (d.bounds k) s (pos x) (pos y)) (sym part.slot)
-              ∙ sym (ap (λ o. pen_of_top d o (pos x) (pos y)) on_top)))
+          let low : k < v.sizes.slots = omega (arith, below, as_many) in
+          slot_pens v cells d stands k (get_or layers k []) low (lent_at k low) x y has
 
       last : ((k : ℕ) → k < length layers → covers (rects_of (get_or layers k [])) (pos x) (pos y) ≡ false)
           → pen_in desktop (pos x) (pos y) ≡ pen_of_top d (top d (pos x) (pos y)) (pos x) (pos y)
@@ -319,9 +334,9 @@ module _ (v : Stack) (cells : List CellView) (d : Desk) (layers : List (List Str
           by_top : (o : Option ℕ) → top_in v (pos x) (pos y) ≡ o → pen_of_top d o (pos x) (pos y) ≡ 0
           by_top None is = refl
           by_top (Some s) is =
-              let below = top_below s (pos x) (pos y) is in
+              let below = top_below v cells d stands s (pos x) (pos y) is in
               absurd (false≢true (sym (none s (omega (arith, below, as_many)))
-              ∙ ((slot_is s below).1 (pos x) (pos y) ∙ (ap (λ o. is_the o s) is ∙ eq-eqb s s refl))))
+              ∙ ((lent_is s below).1 (pos x) (pos y) ∙ (ap (λ o. is_the o s) is ∙ eq-eqb s s refl))))
 
   -- the screen is assembled of all strips
   planes : screen d ≡ assembled d.sizes.width d.sizes.height d.sizes.depth (all_strips layers desktop)

@@ -6,6 +6,7 @@
 #![tactic(auto)]
 
 mod all_layers;
+mod composing;
 mod finishing;
 mod laws;
 mod layer_engine;
@@ -16,6 +17,7 @@ mod slot;
 mod window_after;
 
 pub use all_layers::on_all;
+pub use composing::screen_part;
 pub use laws::{cells_have_few_rectangles, strips_make_the_screen};
 pub use layer_engine::LayerEngine;
 pub use layer_info::LayerInfo;

@@ -69,6 +69,14 @@ impl Planes {
         }
     }
 
+    /// The bytes of all planes, as `from_bytes` takes them.
+    pub fn bytes(&self) -> &[u8]
+        ensures value { self.now ≡ stored self.now.width self.now.height self.now.depth result.now }
+        ensures stored { IsStored self.now.width self.now.height self.now.depth result.now }
+    {
+        self.bytes.as_slice()
+    }
+
     /// The number of columns, 1 to 2048.
     pub fn width(&self) -> u32
         ensures value { result ≡ self.now.width }

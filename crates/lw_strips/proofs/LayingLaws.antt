@@ -122,7 +122,7 @@ screen_composed w h depth strips r is =
     ∙ bitmap_same w h depth _ _ (λ x y _ _. ap (λ u. pen_in strips u (pos 0 +ℤ pos y)) (start x) ∙ ap (λ v. pen_in strips (pos x) v) (start y))))
 
 -- a rectangle that lies in another one has its edges there
-lies_edges : (r s : Rectangle) → IsOrdered r → LiesIn r s → (s.min_x ≤ℤ r.min_x) × (s.min_y ≤ℤ r.min_y) × (r.max_x ≤ℤ s.max_x) × (r.max_y ≤ℤ s.max_y)
+pub lies_edges : (r s : Rectangle) → IsOrdered r → LiesIn r s → (s.min_x ≤ℤ r.min_x) × (s.min_y ≤ℤ r.min_y) × (r.max_x ≤ℤ s.max_x) × (r.max_y ≤ℤ s.max_y)
 lies_edges r s ordered inside =
     let same : (z : ℤ) → z ≤ℤ z = λ z. omega (arith, ints) in
     let first = and_parts _ _ (inside r.min_x r.min_y (and_from _ _ (within_true r.min_x r.min_x r.max_x (same r.min_x) ordered.columns) (within_true r.min_y r.min_y r.max_y (same r.min_y) ordered.rows))) in
@@ -130,7 +130,7 @@ lies_edges r s ordered inside =
     (within_low _ _ _ first.0, within_low _ _ _ first.1, within_high _ _ _ last.0, within_high _ _ _ last.1)
 
 -- so it is no larger, and has a place at least
-extent_inside : (low high other_low other_high : ℤ) (n : ℕ) → low ≤ℤ high → other_low ≤ℤ low → high ≤ℤ other_high → n ≡ unsigned_abs ((other_high +ℤ pos 1) -ℤ other_low) → n ≤ 2048
+pub extent_inside : (low high other_low other_high : ℤ) (n : ℕ) → low ≤ℤ high → other_low ≤ℤ low → high ≤ℤ other_high → n ≡ unsigned_abs ((other_high +ℤ pos 1) -ℤ other_low) → n ≤ 2048
     → (1 ≤ unsigned_abs ((high +ℤ pos 1) -ℤ low)) × (unsigned_abs ((high +ℤ pos 1) -ℤ low) ≤ 2048)
 extent_inside low high other_low other_high n ordered first last long most = (omega (arith, ints), omega (arith, ints))
 
