@@ -1,2 +1,3 @@
 mod TilesLaws
 mod StepLaws
+mod ReadLaws

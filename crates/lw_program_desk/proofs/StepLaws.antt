@@ -16,7 +16,7 @@ same_parts a b e = cc
 abbrev pub with_parts : DeskView → PartsView → DeskView
 with_parts v new = record { sizes = v.sizes; assets = v.assets; held = Some new }
 
-old_stand : (v : DeskView) (old : PartsView) → v.held ≡ Some old → (d : Desk) → StandsFor v d → PartsAre v.sizes v.assets old d
+pub old_stand : (v : DeskView) (old : PartsView) → v.held ≡ Some old → (d : Desk) → StandsFor v d → PartsAre v.sizes v.assets old d
 old_stand v old held d s =
     let same : s.parts ≡ old = same_parts s.parts old (sym s.held ∙ held) in
     subst (λ p. PartsAre v.sizes v.assets p d) same s.stand

@@ -1,3 +1,4 @@
 pub mod Tiles
 pub mod Views
 pub mod Standing
+pub mod Read

@@ -5,7 +5,7 @@ use Rattle.lw_calls.specs.Assets.{Assets}
 use Rattle.lw_calls.specs.declared.sizes.Sizes.{Sizes}
 use Rattle.lw_calls.specs.Limits.{IsWithinLimits}
 use Rattle.lw_machine.specs.Desk.{Desk}
-use Rattle.lw_layer.specs.View.{CellView}
+use Rattle.lw_layer.specs.View.{Live, LiveView, CellView, with_layer}
 use Rattle.lw_engine.specs.Layers.{InfoView, layer_relations}
 use Rattle.lw_runs.specs.Standing.{StandForDesk}
 
@@ -37,6 +37,11 @@ pub record IsKept (v : DeskView) : Type 0 where
   pub stands : StandsFor v desk
   pub limits : IsWithinLimits v.sizes
   pub task : v.sizes.tasks ≡ 1
+
+-- For private contracts: the layer of a live cell, whose hook lies beside it.
+pub record IsLayerIn (c : CellView) (l : LiveView) : Type 0 where
+  pub live : c.state ≡ Live
+  pub layer : c.live ≡ with_layer (λ k. record k { hook = c.live.layer.hook }) l
 
 -- For private contracts: a number from 1 to `most`.
 abbrev pub is_from_one : ℕ → ℕ → Bool

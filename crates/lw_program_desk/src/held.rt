@@ -32,6 +32,20 @@ impl Model for Held {
     ghost view = { λ h. record { info = h.info; cells = h.cells.items; registers = h.registers.items } };
 }
 
+impl Held {
+    pub(crate) fn info(&self) -> &LayerInfo<Tiles>
+        ensures { result.now ≡ self.now.info }
+    {
+        &self.info
+    }
+
+    pub(crate) fn cells(&self) -> &[Slot<Tiles>]
+        ensures { result.now ≡ self.now.cells }
+    {
+        self.cells.as_slice()
+    }
+}
+
 // What a call leaves: the parts, and the reply, or that memory ran out.
 #[derive(Drop)]
 pub(crate) struct AfterStep<E: Engine> {

@@ -5,6 +5,7 @@
 mod held;
 mod limits;
 mod program_desk;
+mod reading;
 mod tiles;
 
 pub use limits::may_open;

@@ -64,6 +64,17 @@ impl ProgramDesk {
         &self.sizes
     }
 
+    // The parts, which stand for all that the desk stands for, and for some desk.
+    pub(crate) fn held(&self) -> &Held
+        ensures stand { (d : MachineDesk) → StandsFor self.now d → PartsAre self.now.sizes self.now.assets result.now d }
+        ensures desk { (d : MachineDesk) × PartsAre self.now.sizes self.now.assets result.now d }
+    {
+        match &self.held {
+            Some(held) => held,
+            None => unreachable!(),
+        }
+    }
+
     /// Makes one call, which has to fit the sizes, and gives its reply. A call that takes no memory can't fail; any other fails
     /// only when out of memory, and the desk then stands for what it stood for.
     pub fn call(&mut self, alloc: Global, call: &Call) -> Result<Reply, AllocError>
