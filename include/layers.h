@@ -29,18 +29,26 @@
 extern "C" {
 #endif
 
-/* What calls answer. After any of the errors all is as it was, but for the count at LW_NO_ROOM. */
+/* What calls answer. After any of the errors all is as it was, but for the count at LW_NO_ROOM. A number has the same meaning in
+ * each call that answers it. */
 enum lw_answer {
     LW_DONE = 0,
     LW_NO_MEMORY = -1,
     LW_BAD_RECTANGLE = -2, /* a maximum is below its minimum */
-    LW_NO_ROOM = -3,       /* the array for the result is too short; the count says how long it has to be */
+    LW_NO_ROOM = -3,       /* the array for the result is too short; where the call has a count, that says how long it has to
+                              be */
     LW_EMPTY = -4,         /* an array of no rectangles has no bounds */
-    LW_OUTSIDE = -5,       /* bits that are asked for end past their row, or rows past their array, though none is asked for */
+    LW_OUTSIDE = -5,       /* bits that are asked for end past their row, or rows past their array, though none is asked for;
+                              a rectangle doesn't lie on the screen */
     LW_CLOSED = -6,        /* the handle has no desk */
-    LW_UNFIT = -7,         /* the numbers are no call, or none of a desk of this size: see struct lw_call */
+    LW_UNFIT = -7,         /* the numbers are no call, or none of a desk of this size: see struct lw_call; or a reader is
+                              asked of a slot that the desk doesn't have */
     LW_BAD_SIZES = -8,     /* no desk has these sizes */
-    LW_IS_OPEN = -9        /* the handle has a desk already */
+    LW_IS_OPEN = -9,       /* the handle has a desk already */
+    LW_NO_LAYER = -10,     /* a reader is asked of a slot that has no layer: a call replies LW_NOT_OPEN to that */
+    LW_NO_WINDOW = -11,    /* or of the messages of a layer that is no window: a call replies LW_NOT_WINDOW to that */
+    LW_BAD_BITMAP = -12,   /* the numbers of a bitmap describe none: they are out of range, or its bytes end past their array */
+    LW_BAD_HOOK = -13      /* the numbers of a hook describe none: it has no tile, or its tiles end past their array */
 };
 
 /* ---- Regions. A rectangle has the columns min_x to max_x and the rows min_y to max_y, all inclusive. A region is an array of
@@ -154,8 +162,9 @@ enum lw_join { LW_OR = 0, LW_AND = 1, LW_XOR = 2, LW_CLEAR = 3 };
  * It is unfit where the kind, the operation or the kind of layer is none of its enum; LW_CLEAR joins two registers; the desk has
  * no such slot, or a register is above 7; a coordinate or a step isn't from -32768 to 32767; a maximum is below its minimum; a
  * size of a box or a blit isn't from 1 to 32767, or one of a struct lw_make isn't as told there; a super-bitmap layer shall have
- * a frame; a mode is above 7, or messages above 31; a blit's minterm has one of its low four bits; or it names a hook or a
- * bitmap, since a desk of this library has none. */
+ * a frame or, at its creation, a hook; a mode is above 7, or messages above 31; a blit's minterm has one of its low four bits;
+ * or it names a hook or a bitmap that the desk wasn't opened with: their numbers are their places in the arrays of
+ * lw_desk_open_with. */
 struct lw_call {
     uint32_t kind, slot, other, operation;
     int32_t x, y, w, h, source_x, source_y;
@@ -181,13 +190,69 @@ struct lw_reply {
 
 /* LW_IS_OPEN, LW_BAD_SIZES, LW_NO_MEMORY, or the handle has a new desk with no layer, no hook and no bitmap. */
 int32_t lw_desk_open(struct lw_desk *desk, const struct lw_sizes *sizes, const struct lw_glyphs *glyphs);
+
+/* A bitmap that a desk is opened with: its first byte is bits[first]. It has plane after plane, in each row after row, and each
+ * row has `(width + 15) / 16 * 2` bytes, in which the most significant bit of the first is the leftmost pixel. What the padding
+ * of a row holds makes no difference. A blit drops planes beyond the screen's, and reads 0 of those that the bitmap lacks. */
+struct lw_bitmap {
+    uint32_t width, height; /* 1 to 2048 */
+    uint32_t depth;         /* bit planes, 1 to 8 */
+    uint32_t first;
+};
+
+/* A backfill hook: so many tiles of 64 pens each, from tile `first` on, whose first pen is tiles[64 * first]. A tile is 8 rows of
+ * 8 pens, and is repeated over all of the layer from its top left pixel on; a pen counts modulo 2^depth of the screen. Each call
+ * that makes the hook fill pixels turns it to its next tile, and after the last one to the first.
+ * A layer takes a hook for itself, so each serves once: where it was taken before, the call is LW_OK, and the layer has none.
+ * LW_SET_HOOK drops the layer's former hook for good, also where it then has none. A super-bitmap layer is never filled. */
+struct lw_hook {
+    uint32_t first, count;
+};
+
+/* The same with bitmaps, 16 at most, and hooks, both of which are copied. LW_BAD_SIZES is also of more; LW_BAD_BITMAP comes after
+ * it, and LW_BAD_HOOK after that. No array is null, also where it has no element. */
+int32_t lw_desk_open_with(struct lw_desk *desk, const struct lw_sizes *sizes, const struct lw_glyphs *glyphs,
+                          const struct lw_bitmap *bitmaps, size_t bitmap_count, const uint8_t *bits, size_t bits_count,
+                          const struct lw_hook *hooks, size_t hook_count, const uint8_t *tiles, size_t tiles_count);
 /* LW_CLOSED, or the handle has no desk from then on, and may be opened again. */
 int32_t lw_desk_close(struct lw_desk *desk);
 
 /* Makes a call, with a text where it has one. After LW_CLOSED, LW_UNFIT and LW_NO_MEMORY all is as it was. A reply's rectangles
- * are written to `rects` where there is room for all of them: 128 are always enough. */
+ * are written to `rects` where there is room for all of them: 128 are always enough. Memory never runs out but of LW_JOIN_RECT,
+ * LW_JOIN_REGION, LW_CLIP, LW_SCROLL_RASTER, the three with a text, and LW_CREATE to LW_ACTIVATE. */
 int32_t lw_desk_call(struct lw_desk *desk, const struct lw_call *call, const uint8_t *text, size_t text_count,
                      struct lw_reply *reply, struct lw_rectangle *rects, size_t rects_count);
+
+/* ---- Readers. Each leaves the desk as it is, and tells how it is after the calls that were done. Without a desk all answer
+ * LW_CLOSED; those of a slot answer LW_UNFIT where the desk has no such slot, and LW_NO_LAYER where the slot has no layer. Those
+ * that write a list to `out` set `count` to its length, and answer LW_NO_ROOM where that is above `out_count`; what lies behind
+ * the list in `out` stays. Only lw_desk_pens and lw_desk_planes take memory, and answer LW_NO_MEMORY. ---- */
+
+/* The slots of the layers, from the front to the back. */
+int32_t lw_desk_layers(struct lw_desk *desk, uint32_t *out, size_t out_count, size_t *count);
+
+/* A layer's bounds in screen coordinates; they may lie off the screen. */
+int32_t lw_desk_bounds(struct lw_desk *desk, uint32_t slot, struct lw_rectangle *out);
+
+/* The places of the screen at which a layer is shown, as a canonical list; none of a layer that is covered. */
+int32_t lw_desk_visible(struct lw_desk *desk, uint32_t slot, struct lw_rectangle *out, size_t out_count, size_t *count);
+
+/* A layer's damage in the layer's own coordinates, as a canonical list. */
+int32_t lw_desk_damage(struct lw_desk *desk, uint32_t slot, struct lw_rectangle *out, size_t out_count, size_t *count);
+
+/* The messages of lw_message that wait for a window, from the oldest, a byte each; lw_get_message takes them. LW_NO_WINDOW where
+ * the slot has a layer that is no window. */
+int32_t lw_desk_messages(struct lw_desk *desk, uint32_t slot, uint8_t *out, size_t out_count, size_t *count);
+
+/* The pens of a rectangle of the screen, row by row, a byte each: those of the layers that are shown there, and 0 where none is.
+ * In this order it answers LW_BAD_RECTANGLE; LW_OUTSIDE where the rectangle doesn't lie on the screen; LW_NO_ROOM where it has
+ * more pixels than `out_count`; LW_NO_MEMORY. What lies behind the pens in `out` stays. Only the rectangle is composed. */
+int32_t lw_desk_pens(struct lw_desk *desk, const struct lw_rectangle *part, uint8_t *out, size_t out_count);
+
+/* The planes of a rectangle of the screen, as a struct lw_bitmap of its size and of the screen's depth has them; `count` tells
+ * how many bytes these are, also at LW_NO_ROOM, before anything is composed. It answers in the order of lw_desk_pens. What a
+ * row's padding holds isn't told. */
+int32_t lw_desk_planes(struct lw_desk *desk, const struct lw_rectangle *part, uint8_t *out, size_t out_count, size_t *count);
 
 /* ---- The verbs: they only fill a struct in. Each answers an error of lw_answer, below 0, or a reply of lw_reply_kind. What a
  * reply says besides is written to the verb's last argument, 0 where it says nothing; after an error that stays. It isn't null,
@@ -420,6 +485,22 @@ static inline int32_t lw_clip_blit(struct lw_desk *desk, uint32_t source, int32_
     return lw_do(desk, &call);
 }
 
+/* The same of a bitmap that the desk was opened with. */
+static inline int32_t lw_blt_bit_map_rast_port(struct lw_desk *desk, uint32_t bitmap, int32_t source_x, int32_t source_y,
+                                               uint32_t slot, int32_t x, int32_t y, int32_t w, int32_t h, uint32_t minterm)
+{
+    struct lw_call call = lw_new_call(LW_PUT, slot);
+    call.other = bitmap;
+    call.source_x = source_x;
+    call.source_y = source_y;
+    call.x = x;
+    call.y = y;
+    call.w = w;
+    call.h = h;
+    lw_set_number(&call, minterm);
+    return lw_do(desk, &call);
+}
+
 static inline int32_t lw_text(struct lw_desk *desk, uint32_t slot, const char *text)
 {
     uint64_t number;
@@ -506,7 +587,7 @@ static inline const char *lw_text_of(int32_t answer)
     case LW_EMPTY:
         return "there is no rectangle";
     case LW_OUTSIDE:
-        return "bits or rows lie outside";
+        return "bits, rows or a rectangle lie outside";
     case LW_CLOSED:
         return "the handle has no desk";
     case LW_UNFIT:
@@ -515,6 +596,14 @@ static inline const char *lw_text_of(int32_t answer)
         return "no desk has these sizes";
     case LW_IS_OPEN:
         return "the handle has a desk already";
+    case LW_NO_LAYER:
+        return "there is no layer in the slot";
+    case LW_NO_WINDOW:
+        return "the slot's layer is no window";
+    case LW_BAD_BITMAP:
+        return "a bitmap's sizes or bytes don't fit";
+    case LW_BAD_HOOK:
+        return "a hook's tiles don't fit";
     default:
         return answer == 1 ? "the rectangles have the pixel" : "unknown";
     }

@@ -5,7 +5,7 @@ use Rattle.std.specs.Int.{int_min, int_max}
 use Rattle.std.proofs.lemmas.Int.{ints, clamps}
 use Rattle.std.proofs.lemmas.List.Elements.{All-nil, All-cons, All-head, All-push, All-pop, All-weaker}
 use Rattle.std.proofs.lemmas.List.{take_more}
-use Rattle.lw_c_arrays.specs.declared.bounds.Bounds.{Bounds}
+use Rattle.lw_c_rectangles.specs.declared.bounds.Bounds.{Bounds}
 use Rattle.lw_c_arrays.specs.Lists.{joined}
 use Rattle.lw_c_arrays.specs.Answers.{IsInside, IsAround}
 

@@ -3,8 +3,9 @@ use Rattle.std.specs.Prelude.{◌≡◌, ℕ, ◌+◌, ◌*◌, Bool, true, ◌&
 use Rattle.std.specs.List.{All, list_any}
 use Rattle.std.specs.Ordering.{int_eq}
 use Rattle.lw_region.specs.Rectangle.{Rectangle, has_pixel}
-use Rattle.lw_c_arrays.specs.declared.bounds.Bounds.{Bounds}
-use Rattle.lw_c_arrays.specs.Lists.{are_ordered, rectangle_of, bounds_of}
+use Rattle.lw_c_rectangles.specs.declared.bounds.Bounds.{Bounds}
+use Rattle.lw_c_rectangles.specs.Bounds.{rectangle_of, bounds_of}
+use Rattle.lw_c_arrays.specs.Lists.{are_ordered}
 
 -- All was done; memory ran out; a maximum of a rectangle is below its minimum; the array for the result is too short; there is no
 -- rectangle; bits or rows that are named lie outside.

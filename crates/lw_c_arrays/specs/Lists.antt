@@ -1,23 +1,13 @@
 -- Arrays of rectangles, as C hands them in.
-use Rattle.std.specs.Prelude.{Bool, ◌&&◌, List, map, int_le}
+use Rattle.std.specs.Prelude.{Bool, List, map}
 use Rattle.std.specs.List.{list_all}
 use Rattle.std.specs.Int.{int_max, int_min}
 use Rattle.lw_region.specs.Rectangle.{Rectangle}
 use Rattle.lw_region.specs.Pixels.{Pixel, pixels_of}
-use Rattle.lw_c_arrays.specs.declared.bounds.Bounds.{Bounds}
+use Rattle.lw_c_rectangles.specs.declared.bounds.Bounds.{Bounds}
+use Rattle.lw_c_rectangles.specs.Bounds.{rectangle_of, is_ordered}
 
--- the rectangle with these bounds, and the bounds of a rectangle
-abbrev pub rectangle_of : Bounds → Rectangle
-rectangle_of b = record { min_x = b.min_x; min_y = b.min_y; max_x = b.max_x; max_y = b.max_y }
-
-abbrev pub bounds_of : Rectangle → Bounds
-bounds_of r = record { min_x = r.min_x; min_y = r.min_y; max_x = r.max_x; max_y = r.max_y }
-
--- neither maximum is below its minimum
-abbrev pub is_ordered : Bounds → Bool
-is_ordered b = int_le b.min_x b.max_x && int_le b.min_y b.max_y
-
--- so of each rectangle of an array
+-- each rectangle has ordered bounds
 abbrev pub are_ordered : List Bounds → Bool
 are_ordered list = list_all is_ordered list
 

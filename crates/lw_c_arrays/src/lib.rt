@@ -15,7 +15,6 @@ mod rows;
 mod tests_of_rows;
 
 pub use blocks::{Place, lw_block_blit, lw_block_blit_within, lw_block_fill, lw_block_invert};
-pub use bounds::Bounds;
 pub use regions::{
     lw_region_bounds, lw_region_difference, lw_region_has, lw_region_intersection,
     lw_region_symmetric_difference, lw_region_union,

@@ -1,14 +1,14 @@
 // Arrays of rectangles and the regions of their pixels.
 
-ghost use Rattle.std.specs.Prelude.{◌≡◌, ◌≤◌, ◌<◌, ◌++◌, ℤ, map, length, drop, IfOk, IsTrue};
+ghost use Rattle.std.specs.Prelude.{◌≡◌, ◌<◌, ℤ, length, IfOk, IsTrue};
 ghost use Rattle.lw_region.specs.Bands.{bands, covers};
 ghost use Rattle.lw_region.specs.Pixels.{pixels_of};
-ghost use Rattle.lw_c_arrays.specs.Lists.{rectangles_of, bounds_of, are_ordered, set_of};
+ghost use Rattle.lw_c_arrays.specs.Lists.{rectangles_of, are_ordered, set_of};
 ghost use Rattle.lw_c_arrays.specs.Combined.{combined};
 
-use crate::bounds::{Bounds, bounds_of, is_ordered, rect_of};
 use crate::operation::{Operation, combine};
-use lw_region::{Rect, Region, or_region};
+use lw_c_rectangles::{Bounds, is_ordered, rect_of};
+use lw_region::{Region, or_region};
 use std::alloc::{AllocError, Global};
 
 pub(crate) fn are_ordered(list: &[Bounds]) -> bool
@@ -73,14 +73,4 @@ pub(crate) fn combined(
     let other = region_of(alloc, b)?;
     combine(alloc, operation, &mut made, &other)?;
     Ok(made)
-}
-
-// Writes rectangles at the head of an array.
-pub(crate) fn write_out(rects: &[Rect], out: &mut [Bounds])
-    requires { length rects.now ≤ length out.old }
-    ensures { out.new ≡ map bounds_of rects.now ++ drop (length rects.now) out.old }
-{
-    for place in 0..rects.len() {
-        out[place] = bounds_of(&rects[place]);
-    }
 }

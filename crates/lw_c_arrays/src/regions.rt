@@ -5,14 +5,16 @@ ghost use Rattle.std.specs.List.{list_any};
 ghost use Rattle.lw_region.specs.Rectangle.{has_pixel};
 ghost use Rattle.lw_region.specs.Bands.{bands};
 ghost use Rattle.lw_region.specs.Pixels.{union, intersection, symmetric_difference, difference};
-ghost use Rattle.lw_c_arrays.specs.Lists.{are_ordered, set_of, rectangle_of};
+ghost use Rattle.lw_c_rectangles.specs.Bounds.{rectangle_of};
+ghost use Rattle.lw_c_arrays.specs.Lists.{are_ordered, set_of};
 ghost use Rattle.lw_c_arrays.specs.Combined.{combined};
 ghost use Rattle.lw_c_arrays.specs.Answers.{IsMade, has_answer, IsBounded, IsAround};
 
 use crate::answers::{BAD_RECTANGLE, DONE, EMPTY, NO_MEMORY, NO_ROOM};
-use crate::bounds::{Bounds, has_pixel, joined};
-use crate::lists::{are_ordered, combined, write_out};
+use crate::bounds::{has_pixel, joined};
+use crate::lists::{are_ordered, combined};
 use crate::operation::Operation;
+use lw_c_rectangles::{Bounds, write_out};
 use lw_region::Rect;
 use std::alloc::Global;
 

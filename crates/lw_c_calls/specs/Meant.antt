@@ -1,5 +1,5 @@
 -- Which call the numbers that C hands over mean.
-use Rattle.std.specs.Prelude.{ℕ, ◌==◌, Bool, ◌&&◌, if◌then◌else◌, List, ℤ, Option, Some, None, nat_lt}
+use Rattle.std.specs.Prelude.{ℕ, ◌==◌, Bool, true, false, ◌&&◌, if◌then◌else◌, List, ℤ, Option, Some, None, nat_lt}
 use Rattle.lw_region.specs.Rectangle.{Rectangle}
 use Rattle.lw_calls.specs.Limits.{is_coordinate}
 use Rattle.lw_calls.specs.declared.area.Area.{Area}
@@ -20,7 +20,7 @@ use Rattle.lw_calls.specs.declared.call.Call.TheVariants.{SetRast, ScrollRaster,
 use Rattle.lw_calls.specs.declared.call.Call.TheVariants.{EndRefresh, Scroll, SetTitle, TakeMessage}
 use Rattle.lw_c_calls.specs.declared.words.CallWords.{CallWords}
 use Rattle.lw_c_calls.specs.declared.words.MakeWords.{MakeWords}
-use Rattle.lw_c_calls.specs.Bounds.{rectangle_of, is_ordered}
+use Rattle.lw_c_rectangles.specs.Bounds.{rectangle_of, is_ordered}
 
 -- the numbers of operations and of kinds of layers
 abbrev pub rect_operation : ℕ → Option RectOp
@@ -141,3 +141,14 @@ meant c text =
     else (if nat_lt c.kind 6 then text_call c text
     else (if nat_lt c.kind 17 then arranging_call c
     else (if nat_lt c.kind 27 then layer_call c else drawing_call c)))
+
+-- the call has a text, which is copied
+abbrev pub has_text : Call → Bool
+has_text (OpenWindow slot make framed nocare classes title) = true
+has_text (Letters slot text) = true
+has_text (SetTitle slot title) = true
+has_text call = false
+
+abbrev pub copies_text : Option Call → Bool
+copies_text None = false
+copies_text (Some call) = has_text call

@@ -7,9 +7,9 @@ use Rattle.lw_calls.specs.declared.reply.Reply.{Reply}
 use Rattle.lw_calls.specs.declared.reply.Reply.TheVariants.{Done, Pen, Outside, Nothing, Layer, Rects, Got, NotOpen, AlreadyOpen}
 use Rattle.lw_calls.specs.declared.reply.Reply.TheVariants.{NotWindow, NotOwner, Backdrop, NotSuper, InUpdate, NotInUpdate}
 use Rattle.lw_calls.specs.declared.reply.Reply.TheVariants.{OutOfBounds, TooManyRects}
-use Rattle.lw_c_calls.specs.declared.bounds.Bounds.{Bounds}
+use Rattle.lw_c_rectangles.specs.declared.bounds.Bounds.{Bounds}
 use Rattle.lw_c_calls.specs.declared.replies.ReplyWords.{ReplyWords}
-use Rattle.lw_c_calls.specs.Bounds.{bounds_of}
+use Rattle.lw_c_rectangles.specs.Bounds.{bounds_of}
 
 abbrev pub message_number : Message → ℕ
 message_number Refresh = 0

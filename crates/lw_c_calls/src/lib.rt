@@ -2,13 +2,11 @@
 //! which call a struct means, and what a reply is told as; `include/layers.h` declares both structs.
 #![tactic(auto)]
 
-mod bounds;
 mod meant;
 mod places;
 mod replies;
 mod words;
 
-pub use bounds::Bounds;
 pub use meant::call_of;
-pub use replies::{ReplyWords, told, write_rects};
+pub use replies::{ReplyWords, message_number, told, write_rects};
 pub use words::{CallWords, MakeWords};

@@ -1,20 +1,22 @@
-ghost use Rattle.std.specs.Prelude.{◌≡◌, IfOk, None, if◌then◌else◌};
+ghost use Rattle.std.specs.Prelude.{◌≡◌, false, IsOk, IfOk, None, if◌then◌else◌};
 ghost use Rattle.lw_calls.specs.declared.call.Call.TheVariants.{At, DrawTo, Fill, ScrollRaster, RegRect, RegPair};
 ghost use Rattle.lw_calls.specs.declared.call.Call.TheVariants.{Create, OpenWindow};
-ghost use Rattle.lw_c_calls.specs.Bounds.{rectangle_of, is_ordered};
+ghost use Rattle.lw_c_rectangles.specs.Bounds.{rectangle_of, is_ordered};
 ghost use Rattle.lw_c_calls.specs.Meant.{meant, region_call, text_call, arranging_call, layer_call, drawing_call};
-ghost use Rattle.lw_c_calls.specs.Meant.{make_of, place_of, hook_of, area_of, mapped, with_rect, with_place};
+ghost use Rattle.lw_c_calls.specs.Meant.{make_of, place_of, hook_of, area_of, mapped, with_rect, with_place, copies_text};
 ghost use Rattle.lw_c_calls.specs.Meant.{rect_operation, pair_operation, layer_kind};
 
-use crate::bounds::{is_ordered, rect_of};
 use crate::places::{is_coordinate, layer_kind, pair_operation, rect_operation, word_of};
 use crate::words::{CallWords, MakeWords};
+use lw_c_rectangles::{is_ordered, rect_of};
 use lw_calls::{Area, Call, Kind, Make, Place, Text};
 use std::alloc::{AllocError, Global};
 
-/// The call that the numbers mean, with this text where it has one, or none. It fails only when out of memory.
+/// The call that the numbers mean, with this text where it has one, or none. It fails only when out of memory, which no call
+/// without a text takes.
 pub fn call_of(alloc: Global, words: &CallWords, text: &[u8]) -> Result<Option<Call>, AllocError>
-    ensures { IfOk result (λ made. made ≡ meant words.now text.now) }
+    ensures call { IfOk result (λ made. made ≡ meant words.now text.now) }
+    ensures memory { copies_text (meant words.now text.now) ≡ false → IsOk result }
 {
     match words.kind {
         0..=2 => Ok(region_call(words)),
@@ -69,33 +71,47 @@ fn pair_call(words: &CallWords) -> Option<Call>
 }
 
 fn text_call(alloc: Global, words: &CallWords, text: &[u8]) -> Result<Option<Call>, AllocError>
-    ensures { IfOk result (λ made. made ≡ text_call words.now text.now) }
+    ensures call { IfOk result (λ made. made ≡ text_call words.now text.now) }
+    ensures memory { copies_text (text_call words.now text.now) ≡ false → IsOk result }
 {
     let slot = words.slot;
-    let text = Text::new(Vec::from_slice(alloc, text)?);
-    Ok(match words.kind {
-        3 => open_call(words, text),
-        4 => Some(Call::Letters { slot, text }),
-        5 => Some(Call::SetTitle { slot, title: text }),
-        _ => None,
-    })
+    match words.kind {
+        3 => open_call(alloc, words, text),
+        4 => Ok(Some(Call::Letters {
+            slot,
+            text: copied(alloc, text)?,
+        })),
+        5 => Ok(Some(Call::SetTitle {
+            slot,
+            title: copied(alloc, text)?,
+        })),
+        _ => Ok(None),
+    }
 }
 
-fn open_call(words: &CallWords, title: Text) -> Option<Call>
-    ensures { result ≡ mapped (layer_kind words.now.make.kind)
+fn copied(alloc: Global, text: &[u8]) -> Result<Text, AllocError>
+    ensures { IfOk result (λ made. made ≡ text.now) }
+{
+    Ok(Text::new(Vec::from_slice(alloc, text)?))
+}
+
+// It takes no memory where there is no such kind of layer.
+fn open_call(alloc: Global, words: &CallWords, text: &[u8]) -> Result<Option<Call>, AllocError>
+    ensures call { IfOk result (λ made. made ≡ mapped (layer_kind words.now.make.kind)
         (λ kind. OpenWindow words.now.slot (make_of words.now.make kind) words.now.flag
-        words.now.is_nocare words.now.number title) }
+        words.now.is_nocare words.now.number text.now)) }
+    ensures memory { layer_kind words.now.make.kind ≡ None → IsOk result }
 {
     match layer_kind(words.make.kind) {
-        Some(kind) => Some(Call::OpenWindow {
+        Some(kind) => Ok(Some(Call::OpenWindow {
             slot: words.slot,
             make: make_of(&words.make, kind),
             framed: words.flag,
             nocare: words.is_nocare,
             asks: words.number,
-            title,
-        }),
-        None => None,
+            title: copied(alloc, text)?,
+        })),
+        None => Ok(None),
     }
 }
 

@@ -1,8 +1,7 @@
-ghost use Rattle.std.specs.Prelude.{◌≡◌, ◌≤◌, ◌++◌, map, length, drop};
-ghost use Rattle.lw_c_calls.specs.Bounds.{bounds_of};
+ghost use Rattle.std.specs.Prelude.{◌≡◌};
 ghost use Rattle.lw_c_calls.specs.Told.{told, message_number, list_written, rects_written};
 
-use crate::bounds::{Bounds, bounds_of};
+use lw_c_rectangles::{Bounds, write_out};
 use lw_calls::{Message, Reply};
 use lw_region::Rect;
 
@@ -27,7 +26,7 @@ pub fn told(reply: &Reply) -> ReplyWords
         Reply::Nothing => (3, 0),
         Reply::Layer(slot) => (4, u64::from(*slot)),
         Reply::Rects(region) => (5, region.rects().len() as u64),
-        Reply::Got(message) => (6, message_number(*message)),
+        Reply::Got(message) => (6, u64::from(message_number(*message))),
         Reply::NotOpen => (7, 0),
         Reply::AlreadyOpen => (8, 0),
         Reply::NotWindow => (9, 0),
@@ -42,7 +41,8 @@ pub fn told(reply: &Reply) -> ReplyWords
     ReplyWords { kind, number }
 }
 
-fn message_number(message: Message) -> u64
+/// A message's number, 0 to 4.
+pub fn message_number(message: Message) -> u8
     ensures { result ≡ message_number message }
 {
     match message {
@@ -68,15 +68,5 @@ fn write_list(rects: &[Rect], out: &mut [Bounds])
 {
     if rects.len() <= out.len() {
         write_out(rects, out);
-    }
-}
-
-// Writes rectangles at the head of an array.
-fn write_out(rects: &[Rect], out: &mut [Bounds])
-    requires { length rects.now ≤ length out.old }
-    ensures { out.new ≡ map bounds_of rects.now ++ drop (length rects.now) out.old }
-{
-    for place in 0..rects.len() {
-        out[place] = bounds_of(&rects[place]);
     }
 }

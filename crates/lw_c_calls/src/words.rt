@@ -1,4 +1,4 @@
-use crate::bounds::Bounds;
+use lw_c_rectangles::Bounds;
 
 /// A layer that is to be created, as C asks for it. Where `has_hook` is false, `hook` isn't read.
 #[repr(C)]

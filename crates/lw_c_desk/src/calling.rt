@@ -3,7 +3,8 @@ ghost use Rattle.lw_c_desk.specs.Answered.{IsMade, IsAnswered};
 
 use crate::answers::{CLOSED, DONE, NO_MEMORY, UNFIT};
 use crate::handle::Handle;
-use lw_c_calls::{Bounds, CallWords, ReplyWords, call_of, told, write_rects};
+use lw_c_calls::{CallWords, ReplyWords, call_of, told, write_rects};
+use lw_c_rectangles::Bounds;
 use lw_program_desk::ProgramDesk;
 use std::alloc::Global;
 

@@ -1,17 +1,29 @@
 //! The desk of one caller for a program in C, behind a handle. C keeps the handle's bytes and hands them in with each call;
 //! `include/layers.h` declares the calls, and says in its first comment what C owes.
 //!
-//! A handle that has no desk is all zeros. `lw_desk_open` gives it one, `lw_desk_call` makes any call of the machine on it, and
-//! `lw_desk_close` frees all that it has. What a call means and how a reply is told stands in `lw_c_calls`.
+//! A handle that has no desk is all zeros. `lw_desk_open` and `lw_desk_open_with` give it one, `lw_desk_call` makes any call of
+//! the machine on it, readers tell what the machine's desk shows, and `lw_desk_close` frees all that it has. What a call means and
+//! how a reply is told stands in `lw_c_calls`.
 #![tactic(auto)]
 
 mod answers;
 mod calling;
+mod handed;
 mod handle;
 mod held;
+mod laws;
 mod opening;
+mod pens;
+mod reading;
+mod writing;
 
 pub use calling::lw_desk_call;
+pub use handed::{BitmapWords, HookWords};
 pub use handle::{Handle, lw_desk_close};
 pub use held::Held;
-pub use opening::{Glyphs, OpenWords, lw_desk_open};
+pub use laws::handles_stand_for_the_machine;
+pub use opening::{Glyphs, OpenWords, lw_desk_open, lw_desk_open_with};
+pub use pens::{lw_desk_pens, lw_desk_planes};
+pub use reading::{
+    lw_desk_bounds, lw_desk_damage, lw_desk_layers, lw_desk_messages, lw_desk_visible,
+};

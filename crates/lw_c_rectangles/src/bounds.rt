@@ -1,5 +1,5 @@
 ghost use Rattle.std.specs.Prelude.{◌≡◌, ◌&&◌, int_le, IsTrue};
-ghost use Rattle.lw_c_calls.specs.Bounds.{rectangle_of, bounds_of, is_ordered};
+ghost use Rattle.lw_c_rectangles.specs.Bounds.{rectangle_of, bounds_of, is_ordered};
 
 use lw_region::Rect;
 
@@ -14,15 +14,15 @@ pub struct Bounds {
     pub max_y: i16,
 }
 
-// Whether neither maximum is below its minimum.
-pub(crate) fn is_ordered(bounds: &Bounds) -> bool
+/// Whether neither maximum is below its minimum.
+pub fn is_ordered(bounds: &Bounds) -> bool
     ensures { result ≡ is_ordered bounds.now }
 {
     bounds.min_x <= bounds.max_x && bounds.min_y <= bounds.max_y
 }
 
-// The rectangle with these bounds.
-pub(crate) fn rect_of(bounds: &Bounds) -> Rect
+/// The rectangle with these bounds.
+pub fn rect_of(bounds: &Bounds) -> Rect
     requires { IsTrue (is_ordered bounds.now) }
     ensures { result ≡ rectangle_of bounds.now }
 {
@@ -32,7 +32,8 @@ pub(crate) fn rect_of(bounds: &Bounds) -> Rect
     }
 }
 
-pub(crate) fn bounds_of(rect: &Rect) -> Bounds
+/// The bounds of a rectangle.
+pub fn bounds_of(rect: &Rect) -> Bounds
     ensures { result ≡ bounds_of rect.now }
 {
     Bounds {

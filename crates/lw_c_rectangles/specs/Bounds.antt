@@ -1,7 +1,7 @@
 -- Rectangles, as C hands them in.
 use Rattle.std.specs.Prelude.{Bool, ◌&&◌, int_le}
 use Rattle.lw_region.specs.Rectangle.{Rectangle}
-use Rattle.lw_c_calls.specs.declared.bounds.Bounds.{Bounds}
+use Rattle.lw_c_rectangles.specs.declared.bounds.Bounds.{Bounds}
 
 -- the rectangle with these bounds, and the bounds of a rectangle
 abbrev pub rectangle_of : Bounds → Rectangle

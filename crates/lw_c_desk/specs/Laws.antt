@@ -1,0 +1,49 @@
+-- What a handle's desk stands for after any calls.
+use Rattle.std.specs.Prelude.{◌≡◌, ℕ, ◌+◌, if◌then◌else◌, List, [], ◌∷◌, ℤ, Option, Some, None}
+use Rattle.std.specs.Ordering.{int_eq}
+use Rattle.lw_calls.specs.Assets.{Assets}
+use Rattle.lw_calls.specs.declared.call.Call.{Call}
+use Rattle.lw_calls.specs.declared.entry.Entry.{Entry}
+use Rattle.lw_calls.specs.declared.sizes.Sizes.{Sizes}
+use Rattle.lw_machine.specs.Hook.{Hook}
+use Rattle.lw_machine.specs.Desk.{empty_desk, shelf_of}
+use Rattle.lw_machine.specs.History.{machine}
+use Rattle.lw_program_desk.specs.Views.{DeskView, StandsFor}
+use Rattle.lw_c_rectangles.specs.declared.bounds.Bounds.{Bounds}
+use Rattle.lw_c_calls.specs.declared.replies.ReplyWords.{ReplyWords}
+use Rattle.lw_c_desk.specs.Answered.{done, IsMade}
+use Rattle.lw_c_desk.specs.Opened.{IsNew}
+
+-- A call on a handle with a desk: which one the numbers mean, what was in the reply and the array before and afterwards, and the
+-- answer.
+pub record MadeCall : Type 0 where
+  pub call : Option Call
+  pub old_reply : ReplyWords
+  pub new_reply : ReplyWords
+  pub old_rects : List Bounds
+  pub new_rects : List Bounds
+  pub answer : ℤ
+
+-- Calls one after another, each of which left what `lw_desk_call` promises, from one desk to another.
+abbrev pub AreMade : List MadeCall → DeskView → DeskView → Type 0
+AreMade [] v w = w ≡ v
+AreMade (m ∷ rest) v w =
+    (u : DeskView) × IsMade m.call v u m.old_reply m.new_reply m.old_rects m.new_rects m.answer × AreMade rest u w
+
+-- those that were done, as steps of a history of one task
+abbrev pub before_others : ℕ → Option Call → (ℕ → List Entry) → List Entry
+before_others n None others = others n
+before_others n (Some call) others = record { task = 0; seq = n; call = call } ∷ others (n + 1)
+
+abbrev pub steps_done : ℕ → List MadeCall → List Entry
+steps_done n [] = []
+steps_done n (m ∷ rest) =
+    if int_eq m.answer done then before_others n m.call (λ k. steps_done k rest) else steps_done n rest
+
+-- The desk of a handle that was opened stands after any calls for the machine's desk after those that were done: so there
+-- always is a desk for which it stands.
+abbrev pub HandlesStandForTheMachine : Type 0
+HandlesStandForTheMachine =
+    (sizes : Sizes) (assets : Assets) (hooks : List Hook) (opened : Option DeskView) (made : List MadeCall) (last : DeskView)
+    → (new : IsNew sizes assets hooks opened) → AreMade made new.desk last
+    → StandsFor last (machine (empty_desk sizes assets (shelf_of hooks)) (steps_done 0 made))
