@@ -46,14 +46,26 @@ static void play(void)
 {
     static const struct lw_glyphs glyphs = {{{0}}};
     static const struct lw_sizes sizes = {64, 32, 2, 3};
+    static const struct lw_bitmap bitmap = {16, 2, 1, 0};
+    static const struct lw_hook hook = {0, 1};
+    static const uint8_t bits[4] = {0x55, 0x55, 0xaa, 0xaa};
+    static uint8_t tiles[64], out[64 * 32];
+    struct lw_rectangle part = {0, 0, 63, 31};
+    struct lw_make make = lw_new_make(8, 8, 47, 23, LW_SIMPLE);
     struct lw_desk desk = LW_NO_DESK;
-    MUST(lw_desk_open(&desk, &sizes, &glyphs));
+    size_t count;
+    make.has_hook = true;
+    tiles[9] = 3;
+    MUST(lw_desk_open_with(&desk, &sizes, &glyphs, &bitmap, 1, bits, sizeof bits, &hook, 1, tiles, sizeof tiles));
     MUST(lw_create_upfront_layer(&desk, 0, 0, 0, 31, 15, LW_SMART));
-    MUST(lw_create_upfront_layer(&desk, 1, 8, 8, 47, 23, LW_SIMPLE));
+    MUST(lw_create_layer(&desk, 1, &make));
+    MUST(lw_blt_bit_map_rast_port(&desk, 0, 0, 0, 1, 2, 2, 16, 2, LW_COPY_MINTERM));
     MUST(lw_rect_fill(&desk, 0, 0, 0, 20, 12));
     MUST(lw_upfront_layer(&desk, 0));
     MUST(lw_move_layer(&desk, 0, 5, 3));
     MUST(lw_text(&desk, 1, "abc"));
+    MUST(lw_desk_pens(&desk, &part, out, sizeof out));
+    MUST(lw_desk_planes(&desk, &part, out, sizeof out, &count));
     MUST(lw_delete_layer(&desk, 1));
     MUST(lw_desk_close(&desk));
 }

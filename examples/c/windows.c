@@ -1,9 +1,8 @@
 /* Three windows on a screen of 160 by 100 pixels with 2 bit planes. The front one is dragged over the others for 60 steps. At
  * each step the pixels that it gains or leaves are damage, and what shows there is painted again: of each window behind it the
  * part that those in front leave. Every tenth picture is written as PPM: windows DIRECTORY. */
+#include "ppm.h"
 #include <layers.h>
-#include <stdio.h>
-#include <stdlib.h>
 
 enum { WIDTH = 160, HEIGHT = 100, STEP = WIDTH / 8, PLANES = 2, WINDOWS = 3, MOST = 64 };
 
@@ -54,19 +53,12 @@ static void redraw(struct region damage)
 static void write_picture(const char *directory, int number)
 {
     static const char colours[4][4] = {"\x20\x40\x60", "\xff\x88\x00", "\xff\xff\xff", "\x00\x22\x44"};
-    char name[512];
-    snprintf(name, sizeof name, "%s/windows-%02d.ppm", directory, number);
-    FILE *file = fopen(name, "wb");
-    if (!file) {
-        perror(name);
-        exit(1);
-    }
-    fprintf(file, "P6\n%d %d\n255\n", WIDTH, HEIGHT);
-    for (size_t place = 0; place < (size_t)WIDTH * HEIGHT; place++) {
+    static uint8_t pens[WIDTH * HEIGHT];
+    for (size_t place = 0; place < sizeof pens; place++) {
         unsigned shift = 7 - place % 8, low = planes[0][place / 8] >> shift & 1, high = planes[1][place / 8] >> shift & 1;
-        fwrite(colours[2 * high + low], 1, 3, file);
+        pens[place] = (uint8_t)(2 * high + low);
     }
-    fclose(file);
+    write_ppm(directory, "windows", number, WIDTH, HEIGHT, pens, colours);
 }
 
 int main(int argc, char **argv)
