@@ -1,16 +1,15 @@
 -- Area patterns (Graphics Primitives: an area pattern has 16 columns and a power of two of rows; that it is counted from the
 -- layer's own corner is this project's own rule).
-use Rattle.std.specs.Prelude.{◌≡◌, ℕ, ◌-◌, ◌==◌, Bool, ◌⊎◌, List, length, ℤ, pos, unsigned_abs}
+use Rattle.std.specs.Prelude.{◌≡◌, ℕ, ◌-◌, ◌==◌, Bool, true, ◌||◌, List, length, ℤ, pos, unsigned_abs}
 use Rattle.std.specs.List.{slice_index_or}
 use Rattle.std.specs.Int.{bit_at, int_rem_euclid}
 
--- 1, 2, 4, 8 or 16
-abbrev pub IsCount : ℕ → Type 0
-IsCount n = (n ≡ 1) ⊎ ((n ≡ 2) ⊎ ((n ≡ 4) ⊎ ((n ≡ 8) ⊎ (n ≡ 16))))
+-- so many words make a pattern: 1, 2, 4, 8 or 16
+abbrev pub is_pattern_count : ℕ → Bool
+is_pattern_count n = (n == 1) || ((n == 2) || ((n == 4) || ((n == 8) || (n == 16))))
 
--- 1, 2, 4, 8 or 16 words
 abbrev pub IsPattern : List ℕ → Type 0
-IsPattern words = IsCount (length words)
+IsPattern words = is_pattern_count (length words) ≡ true
 
 -- the word of row y: that at the row's remainder by the number of words, which is never negative
 abbrev pub word_at : List ℕ → ℤ → ℕ

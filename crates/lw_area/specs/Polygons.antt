@@ -1,6 +1,6 @@
 -- Polygons and the pixels inside them (Graphics Primitives: AreaMove, AreaDraw, AreaEnd; which pixels are inside is this
 -- project's own rule).
-use Rattle.std.specs.Prelude.{◌≡◌, ℕ, ◌≤◌, ◌%◌, ◌==◌, Bool, true, false, cond, ◌&&◌, List, [], ◌∷◌, ◌++◌, length, ℤ, pos, negsuc, ◌-ℤ◌, ◌*ℤ◌, int_lt, int_le}
+use Rattle.std.specs.Prelude.{◌≡◌, ℕ, nat_le, ◌%◌, ◌==◌, Bool, true, false, cond, ◌&&◌, List, [], ◌∷◌, ◌++◌, length, ℤ, pos, negsuc, ◌-ℤ◌, ◌*ℤ◌, int_lt, int_le}
 use Rattle.std.specs.List.{list_all, filter}
 use Rattle.std.specs.Int.{int_min, int_max}
 use Rattle.lw_area.specs.declared.point.Point.{Point}
@@ -10,10 +10,13 @@ use Rattle.lw_region.specs.Rectangle.{Rectangle, within}
 abbrev pub is_in_range : Point → Bool
 is_in_range p = within (negsuc 2047) p.x (pos 4095) && within (negsuc 2047) p.y (pos 4095)
 
+-- so many points make a polygon
+abbrev pub is_point_count : ℕ → Bool
+is_point_count n = nat_le 3 n && nat_le n 32
+
 -- 3 to 32 points in range
 pub record IsPolygon (points : List Point) : Type 0 where
-  pub least : 3 ≤ length points
-  pub most : length points ≤ 32
+  pub count : is_point_count (length points) ≡ true
   pub range : list_all is_in_range points ≡ true
 
 -- An edge by its two ends.

@@ -1,7 +1,6 @@
 ghost use Rattle.std.specs.Prelude.{◌≡◌, ◌≤◌, take};
 ghost use Rattle.std.specs.Option.{SomeIff};
-ghost use Rattle.std.specs.Bool.{Decides};
-ghost use Rattle.lw_area.specs.Patterns.{IsCount, IsPattern, word_at, word_has};
+ghost use Rattle.lw_area.specs.Patterns.{is_pattern_count, IsPattern, word_at, word_has};
 
 use std::marker::Model;
 
@@ -59,7 +58,7 @@ impl Pattern {
 }
 
 fn is_count(count: usize) -> bool
-    ensures { Decides result (IsCount count) }
+    ensures { result ≡ is_pattern_count count }
 {
     matches!(count, 1 | 2 | 4 | 8 | 16)
 }

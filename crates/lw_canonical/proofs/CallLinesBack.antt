@@ -1,6 +1,6 @@
 -- The line of the call that a call line spells is this line.
 use Rattle.std.proofs.Common.{◌≡◌, ℕ, zero, suc, true, List, [], ◌∷◌, length, map, slice_index, slice_index_or, ℤ, pos, negsuc, ◌+ℤ◌, ◌-ℤ◌, unsigned_abs, Option, Some, None, option_map, refl, sym, ap, ◌∙◌, arith}
-use Rattle.lw_region.specs.Rectangle.{Rectangle, within}
+use Rattle.lw_region.specs.Rectangle.{within}
 use Rattle.lw_calls.specs.declared.make.Kind.{Kind}
 use Rattle.lw_calls.specs.declared.make.Kind.TheVariants.{Simple, Smart, SuperBitmap}
 use Rattle.lw_calls.specs.Limits.{rect_fits}
@@ -9,7 +9,7 @@ use Rattle.lw_grammar.specs.declared.verb.NumberVerb.{NumberVerb}
 use Rattle.lw_grammar.specs.declared.verb.NumberVerb.TheVariants.{APen as APenVerb}
 use Rattle.lw_grammar.specs.declared.verb.PairVerb.TheVariants.{Move as MoveVerb}
 use Rattle.lw_grammar.specs.declared.verb.TextVerb.TheVariants.{Text as TextOf}
-use Rattle.lw_grammar.specs.Statements.{NewLayer, Act, NumberAct, PairAct, TextAct, BareAct, RegRectAct, RegPairAct, RegClearAct, CreateAct, OpenAct, InFrontAct, WhichAct, PutAct, BlitAct, CallLine, four, is_hook_number, is_own_size, is_new_layer_in_range, place_and_size_fit, greatest_number, is_act_in_range}
+use Rattle.lw_grammar.specs.Statements.{NewLayer, Act, NumberAct, PairAct, TextAct, BareAct, RegRectAct, RegPairAct, RegClearAct, CreateAct, OpenAct, InFrontAct, WhichAct, PutAct, BlitAct, CallLine, four, is_hook_number, is_own_size, is_new_layer_in_range, place_and_size_fit, greatest_number, is_act_in_range, Four, bounds}
 use Rattle.lw_grammar.specs.Told.{place_among, created_make, opened_make, number_call, spelled_call}
 use Rattle.lw_canonical.specs.Canonical.{created_layer, opened_layer, line_of_call}
 use Rattle.lw_grammar.specs.GoodLines.{IsNewLayerOf, IsStatementMade}
@@ -55,26 +55,26 @@ own_back SuperBitmap a m h =
     (number_back 1 a.bits_w 2048 sides.0, number_back 1 a.bits_h 2048 sides.1)
 
 -- a layer that is asked for, by its parts
-abbrev layer_with : NewLayer → Rectangle → Option ℤ → ℤ → ℤ → NewLayer
+abbrev layer_with : NewLayer → Four → Option ℤ → ℤ → ℤ → NewLayer
 layer_with a numbers hook w h = record { kind = a.kind; place = a.place; numbers = numbers; backdrop = a.backdrop; hook = hook; bits_w = w; bits_h = h }
 
-layer_same : (a : NewLayer) (numbers : Rectangle) (hook : Option ℤ) (w h : ℤ) → numbers ≡ a.numbers → hook ≡ a.hook → w ≡ a.bits_w → h ≡ a.bits_h → layer_with a numbers hook w h ≡ a
+layer_same : (a : NewLayer) (numbers : Four) (hook : Option ℤ) (w h : ℤ) → numbers ≡ a.numbers → hook ≡ a.hook → w ≡ a.bits_w → h ≡ a.bits_h → layer_with a numbers hook w h ≡ a
 layer_same a numbers hook w h b k c d =
-    ap (λ (q : Rectangle). layer_with a q hook w h) b ∙ ap (λ (q : Option ℤ). layer_with a a.numbers q w h) k ∙ ap (λ (q : ℤ). layer_with a a.numbers a.hook q h) c ∙ ap (λ (q : ℤ). layer_with a a.numbers a.hook a.bits_w q) d
+    ap (λ (q : Four). layer_with a q hook w h) b ∙ ap (λ (q : Option ℤ). layer_with a a.numbers q w h) k ∙ ap (λ (q : ℤ). layer_with a a.numbers a.hook q h) c ∙ ap (λ (q : ℤ). layer_with a a.numbers a.hook a.bits_w q) d
 
 -- its bounds
 bound_back : (low high : ℤ) → (low +ℤ ((high -ℤ low) +ℤ pos 1)) -ℤ pos 1 ≡ high
 bound_back low high = omega (arith, ints)
 
-numbers_same : (r : Rectangle) (c d : ℤ) → c ≡ r.max_x → d ≡ r.max_y → four r.min_x r.min_y c d ≡ r
-numbers_same r c d e f = ap (λ (q : ℤ). four r.min_x r.min_y q d) e ∙ ap (λ (q : ℤ). four r.min_x r.min_y r.max_x q) f
+numbers_same : (r : Four) (c d : ℤ) → c ≡ r.third → d ≡ r.fourth → four r.first r.second c d ≡ r
+numbers_same r c d e f = ap (λ (q : ℤ). four r.first r.second q d) e ∙ ap (λ (q : ℤ). four r.first r.second r.third q) f
 
 -- what a creation asks for, and what an opening does
 created_back : (a : NewLayer) → IsNewLayerOf a.kind a → is_new_layer_in_range a ≡ true → created_layer (created_make a) ≡ a
 created_back a m h =
     let halves = and_parts (is_hook_number a.hook) _ h in
     let own = own_back a.kind a m halves.1 in
-    layer_same a _ _ _ _ (numbers_same a.numbers _ _ (bound_back a.numbers.min_x a.numbers.max_x) (bound_back a.numbers.min_y a.numbers.max_y)) (hook_back a.hook halves.0) own.0 own.1
+    layer_same a _ _ _ _ (numbers_same a.numbers _ _ (bound_back a.numbers.first a.numbers.third) (bound_back a.numbers.second a.numbers.fourth)) (hook_back a.hook halves.0) own.0 own.1
 
 opened_back : (a : NewLayer) → IsNewLayerOf a.kind a → is_new_layer_in_range a ≡ true → opened_layer (opened_make a) ≡ a
 opened_back a m h =
@@ -106,7 +106,7 @@ line_back names bitmaps among layers (WhichAct x y) m h b slots e = ap (λ ls. C
 line_back names bitmaps among layers InFrontAct m h b slots e = ap (λ ls. CallLine ls InFrontAct) (two_back names slots layers e m.0)
 line_back names bitmaps among layers (BlitAct g) m h b slots e = ap (λ ls. CallLine ls (BlitAct g)) (two_back names slots layers e m.0)
 line_back names bitmaps among layers (CreateAct a) m h b slots e =
-    let halves = and_parts (rect_fits a.numbers) _ h in
+    let halves = and_parts (rect_fits (bounds a.numbers)) _ h in
     ap (λ k. CallLine (slice_index_or names (slice_index slots 0) [] ∷ []) (CreateAct k)) (created_back a m.1 halves.1) ∙ ap (λ ls. CallLine ls (CreateAct a)) (one_back names slots layers e m.0)
 line_back names bitmaps among layers (OpenAct a framed nocare classes title) m h b slots e =
     let halves = and_parts (place_and_size_fit a.numbers) _ h in

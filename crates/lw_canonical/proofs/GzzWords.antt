@@ -18,8 +18,8 @@ use Rattle.std.proofs.lemmas.Bool.{not_from_false}
 
 -- the word that a line does, where the layer in front of which it puts its window has this slot
 abbrev pub word_done : GzzAct → ℕ → GzzWord
-word_done (OpenGzz inner kind place r classes title) m = OpenWord kind place r.min_x r.min_y r.max_x r.max_y classes title
-word_done (BoxGzz r) m = BoxWord r.min_x r.min_y r.max_x r.max_y
+word_done (OpenGzz inner kind place r classes title) m = OpenWord kind place r.first r.second r.third r.fourth classes title
+word_done (BoxGzz r) m = BoxWord r.first r.second r.third r.fourth
 word_done FrontGzz m = FrontWord
 word_done BehindGzz m = BehindWord
 word_done (InFrontGzz other) m = PlaceWord m

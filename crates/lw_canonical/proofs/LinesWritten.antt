@@ -15,7 +15,7 @@ use Rattle.lw_grammar.specs.Statements.{FillAct, Statement, CallLine, LockLine, 
 use Rattle.lw_grammar.specs.Told.{Section, OpenGroup, NamedPair, area_words, fill_lines, area_lines, gzz_lines, stands_for, told}
 use Rattle.lw_grammar.specs.Script.{Setting, are_calls_due, are_numbers_due, parts_pair, line_read, added}
 use Rattle.lw_grammar.specs.GoodLines.{IsGoodLine, AreGoodLines}
-use Rattle.lw_canonical.specs.Spelling.{four_words}
+use Rattle.lw_canonical.specs.Spelling.{bounds_words}
 use Rattle.lw_grammar.proofs.ScriptSizes.{when, has_screen, in_calls, sized, tests_passed}
 use Rattle.lw_grammar.proofs.AreaLines.{without_last}
 use Rattle.lw_grammar.proofs.ScriptOutcome.{line_good, plain_tested, IsKept, lines_more}
@@ -79,9 +79,9 @@ module _ (s : Setting) (layer : List ℕ) (name : token_of layer ≡ NameToken l
       let fits = and_parts (axis_fits r.min_x r.max_x) (axis_fits r.min_y r.max_y) (tests_passed s above (CallLine (layer ∷ []) (FillAct r)) g.tested).range in
       let x = axis_read_back r.min_x r.max_x fits.0 in
       let y = axis_read_back r.min_y r.max_y fits.1 in
-      let numbers : list_all is_plain (four_words r) ≡ true =
+      let numbers : list_all is_plain (bounds_words r) ≡ true =
       and_from (is_plain (signed_decimal r.min_x)) _ x.0.plain (and_from (is_plain (signed_decimal r.min_y)) _ y.0.plain (and_from (is_plain (signed_decimal r.max_x)) _ x.1.plain (and_from (is_plain (signed_decimal r.max_y)) true y.1.plain refl))) in
-      (line_reads s (told above) (CallLine (layer ∷ []) (FillAct r)) FillVerb (layer ∷ four_words r) refl (and_from (is_plain layer) _ (name_plain layer name) numbers) (omega arith) refl refl (λ i. line_by FillVerb (name i ∷ x.0.token i ∷ y.0.token i ∷ x.1.token i ∷ y.1.token i ∷ [])) g.here.0 (no_numbers (told above).section g.here.1) g.here.1 g.tested, refl)
+      (line_reads s (told above) (CallLine (layer ∷ []) (FillAct r)) FillVerb (layer ∷ bounds_words r) refl (and_from (is_plain layer) _ (name_plain layer name) numbers) (omega arith) refl refl (λ i. line_by FillVerb (name i ∷ x.0.token i ∷ y.0.token i ∷ x.1.token i ∷ y.1.token i ∷ [])) g.here.0 (no_numbers (told above).section g.here.1) g.here.1 g.tested, refl)
 
   -- fills, and the statements of an area
   fills_plain : (rs : List Rectangle) (fs : List Statement) → ArePlain s fs → ArePlain s (fill_lines layer rs ++ fs)

@@ -11,7 +11,7 @@ use Rattle.lw_grammar.specs.Lines.{lines}
 use Rattle.lw_grammar.specs.Tokens.{tokens, Token, NameToken, token_of}
 use Rattle.lw_grammar.specs.declared.verb.GzzVerb.{GzzVerb}
 use Rattle.lw_grammar.specs.Verbs.{gzz_word, verb_word, verb_of}
-use Rattle.lw_grammar.specs.Statements.{BoxAct, FillAct, Statement, GzzAct, Line, StatementLine, AreaLine, GzzLine, row_line, numbers_line, area_points, area_line, area_pattern_line, gzz_line, statement_by, line_by, is_line_in_range}
+use Rattle.lw_grammar.specs.Statements.{BoxAct, FillAct, Statement, GzzAct, Line, StatementLine, AreaLine, GzzLine, row_line, numbers_line, area_points, area_line, area_pattern_line, gzz_line, statement_by, line_by, is_line_in_range, bounds}
 use Rattle.lw_grammar.specs.Told.{told}
 use Rattle.lw_grammar.specs.Script.{Setting, line_limit, is_printable, are_numbers_due, is_known_in, belongs_in, words_read, verb_read, stated, line_made, line_tested, line_read}
 use Rattle.lw_calls.specs.Written.{line_of}
@@ -40,9 +40,9 @@ statement_spelt ClearRegion ts = clear_spelt ts
 statement_spelt Create ts = create_spelt ts
 statement_spelt Open ts = open_spelt ts
 statement_spelt InFront ts = infront_spelt ts
-statement_spelt Box ts = four_spelt (codes "box") (λ r. BoxAct r) (λ l r. refl) place_and_size_small ts
+statement_spelt Box ts = four_spelt (codes "box") (λ n. BoxAct n) (λ l r. refl) place_and_size_small ts
 statement_spelt Which ts = which_spelt ts
-statement_spelt Fill ts = four_spelt (codes "fill") (λ r. FillAct r) (λ l r. refl) rect_small ts
+statement_spelt Fill ts = four_spelt (codes "fill") (λ n. FillAct (bounds n)) (λ l r. refl) rect_small ts
 statement_spelt ScrollRaster ts = scrollraster_spelt ts
 statement_spelt Put ts = put_spelt ts
 statement_spelt Blit ts = blit_spelt ts

@@ -11,7 +11,8 @@ use Rattle.lw_grammar.specs.declared.verb.NumberVerb.TheVariants.{Hook as HookVe
 use Rattle.lw_calls.specs.declared.limits.Limits.{Limits}
 use Rattle.lw_grammar.specs.Demands.{◌>>=◌, demand}
 use Rattle.lw_grammar.specs.Tokens.{Token, NameToken, NumberToken, token_of}
-use Rattle.lw_grammar.specs.Statements.{NumberAct, Statement, LayersLine, RowLine, PatternLine, OrderLine, ReportLine, CallLine, Line, StatementLine, AreaLine, GzzLine, row_line, numbers_line, alone_line, layers_line, is_pattern_count, pattern_words, pattern_line, number_line, area_points, area_line, area_pattern_line, line_by, gzz_line}
+use Rattle.lw_area.specs.Patterns.{is_pattern_count}
+use Rattle.lw_grammar.specs.Statements.{NumberAct, Statement, LayersLine, RowLine, PatternLine, OrderLine, ReportLine, CallLine, Line, StatementLine, AreaLine, GzzLine, row_line, numbers_line, alone_line, layers_line, pattern_words, pattern_line, number_line, area_points, area_line, area_pattern_line, line_by, gzz_line}
 use Rattle.lw_grammar.specs.Told.{Section, Told, told}
 use Rattle.lw_grammar.specs.Script.{Setting, is_skipped, are_numbers_due, is_nothing_due, is_known_in, belongs_in, verb_on, after_verb, are_few, words_read, verb_read, stated, line_made, line_tested, line_read}
 use Rattle.lw_calls.specs.Written.{hex_digit}

@@ -1,6 +1,5 @@
 -- The words of what is done with a window of two layers are those that it was read from.
 use Rattle.std.proofs.Common.{◌≡◌, ℕ, ◌≤◌, Bool, true, false, List, [], ◌∷◌, ◌++◌, map, codes, bytes_eq, None, IfSome, refl, sym, ap, ◌∙◌}
-use Rattle.lw_region.specs.Rectangle.{Rectangle}
 use Rattle.lw_calls.specs.declared.make.Kind.{Kind}
 use Rattle.lw_calls.specs.declared.make.Kind.TheVariants.{Simple, Smart}
 use Rattle.lw_calls.specs.declared.make.Place.{Place}
@@ -8,7 +7,7 @@ use Rattle.lw_grammar.specs.declared.verb.GzzVerb.{GzzVerb}
 use Rattle.lw_grammar.specs.declared.verb.GzzVerb.TheVariants.{Open as OpenVerb, Box as BoxVerb, Front as FrontVerb, Behind as BehindVerb, InFront as InFrontVerb, Close as CloseVerb}
 use Rattle.lw_grammar.specs.Tokens.{Token, NameToken, NumberToken, TextToken}
 use Rattle.lw_grammar.specs.Verbs.{gzz_word}
-use Rattle.lw_grammar.specs.Statements.{GzzAct, OpenGzz, BoxGzz, FrontGzz, BehindGzz, CloseGzz, Line, StatementLine, AreaLine, GzzLine, four, ask_option, place_of, inner_kind_of, titled_gzz, opened_gzz, gopen_line, gbox_line, gzz_alone, ginfront_line, gzz_line, is_gzz_in_range}
+use Rattle.lw_grammar.specs.Statements.{GzzAct, OpenGzz, BoxGzz, FrontGzz, BehindGzz, CloseGzz, Line, StatementLine, AreaLine, GzzLine, four, ask_option, place_of, inner_kind_of, titled_gzz, opened_gzz, gopen_line, gbox_line, gzz_alone, ginfront_line, gzz_line, is_gzz_in_range, Four}
 use Rattle.lw_canonical.specs.Spelling.{text_word, kind_word, place_word, ask_words, gzz_words}
 use Rattle.lw_grammar.proofs.ScriptNames.{equal_names}
 use Rattle.lw_grammar.proofs.GzzLines.{boxes_fit}
@@ -41,7 +40,7 @@ inner_kind_spelt w =
     found_if P (bytes_eq w (codes "simple")) Simple _ (equal_names w (codes "simple")) (found_if P (bytes_eq w (codes "smart")) Smart None (equal_names w (codes "smart")) tt)
 
 -- what is found where the title is left
-titled_has : (P : Line → Type 0) (g i : List ℕ) (kind : Kind) (place : Place) (r : Rectangle) (classes : ℕ) (ts : List Token) → ((title : List ℕ) → map token_word ts ≡ text_word title ∷ [] → P (GzzLine g (OpenGzz i kind place r classes title))) → IfSome (titled_gzz g i kind place r classes ts) P
+titled_has : (P : Line → Type 0) (g i : List ℕ) (kind : Kind) (place : Place) (r : Four) (classes : ℕ) (ts : List Token) → ((title : List ℕ) → map token_word ts ≡ text_word title ∷ [] → P (GzzLine g (OpenGzz i kind place r classes title))) → IfSome (titled_gzz g i kind place r classes ts) P
 titled_has P g i kind place r classes (TextToken title ∷ []) h = h title refl
 titled_has P g i kind place r classes _ h = tt
 

@@ -1,13 +1,13 @@
 -- The words of a layer that is asked for are those that it was read from.
 use Rattle.std.proofs.Common.{◌≡◌, ℕ, ◌==◌, Bool, true, false, not, cond, List, [], ◌∷◌, ◌++◌, map, ℤ, pos, codes, bytes_eq, Option, Some, None, option_and_then, IfSome, refl, sym, ap, ◌∙◌, arith, append-nil, append_assoc}
-use Rattle.lw_region.specs.Rectangle.{Rectangle, within}
+use Rattle.lw_region.specs.Rectangle.{within}
 use Rattle.lw_calls.specs.declared.make.Kind.{Kind}
 use Rattle.lw_calls.specs.declared.make.Kind.TheVariants.{Simple, Smart, SuperBitmap}
 use Rattle.lw_calls.specs.declared.make.Place.{Place}
 use Rattle.lw_calls.specs.declared.make.Place.TheVariants.{Front, Behind}
 use Rattle.lw_calls.specs.Limits.{rect_fits}
 use Rattle.lw_grammar.specs.Tokens.{is_a_name, Token, NameToken, NumberToken, TextToken, OddToken}
-use Rattle.lw_grammar.specs.Statements.{NewLayer, CreateAct, OpenAct, Statement, CallLine, four, kind_of, place_of, flag, hook_option, classes_from, asked_classes, ask_option, at_end, new_without_bitmap, create_without_bitmap, create_super, create_kind, titled_line, open_without_bitmap, open_super, open_kind, new_layer_line, is_hook_number, place_and_size_fit, is_line_in_range}
+use Rattle.lw_grammar.specs.Statements.{NewLayer, CreateAct, OpenAct, Statement, CallLine, four, kind_of, place_of, flag, hook_option, classes_from, asked_classes, ask_option, at_end, new_without_bitmap, create_without_bitmap, create_super, create_kind, titled_line, open_without_bitmap, open_super, open_kind, new_layer_line, is_hook_number, place_and_size_fit, is_line_in_range, Four, bounds}
 use Rattle.lw_canonical.specs.Spelling.{text_word, four_words, kind_word, place_word, flag_words, hook_words, set_word, ask_words, words_of}
 use Rattle.lw_grammar.proofs.ScriptNames.{equal_names}
 use Rattle.lw_canonical.proofs.SpelledNumbers.{found_if, IsSetOf, set_spelled}
@@ -92,20 +92,20 @@ titled_has P l layer framed nocare classes (TextToken title ∷ []) h = h title 
 titled_has P l layer framed nocare classes _ h = tt
 
 -- What stands after four numbers: with these words, and with the four numbers in range.
-abbrev IsNewLayerSpelt : List ℕ → List ℕ → Place → Rectangle → Kind → List Token → Statement → Type 0
+abbrev IsNewLayerSpelt : List ℕ → List ℕ → Place → Four → Kind → List Token → Statement → Type 0
 IsNewLayerSpelt word l place numbers kind ts f = AreTokens ts → (version : ℕ) → is_line_in_range version f ≡ true → AreSmall numbers × (words_of f ≡ word ∷ l ∷ kind_word kind ∷ place_word place ∷ (four_words numbers ++ map token_word ts))
 
 -- the words in front of what stands after four numbers
-abbrev in_front : List ℕ → List ℕ → Kind → Place → Rectangle → List (List ℕ) → List (List ℕ)
+abbrev in_front : List ℕ → List ℕ → Kind → Place → Four → List (List ℕ) → List (List ℕ)
 in_front word l kind place numbers rest = word ∷ l ∷ kind_word kind ∷ place_word place ∷ (four_words numbers ++ rest)
 
 -- [backdrop] [hook N]
-created_without_bitmap : (l : List ℕ) (kind : Kind) (place : Place) (numbers : Rectangle) (ts : List Token) → ((backdrop : Bool) (hook : Option ℤ) → words_of (CallLine (l ∷ []) (CreateAct (new_without_bitmap kind place numbers backdrop hook))) ≡ in_front (codes "create") l kind place numbers (flag_words (codes "backdrop") backdrop ++ hook_words hook)) → IfSome (create_without_bitmap l kind place numbers ts) (IsNewLayerSpelt (codes "create") l place numbers kind ts)
+created_without_bitmap : (l : List ℕ) (kind : Kind) (place : Place) (numbers : Four) (ts : List Token) → ((backdrop : Bool) (hook : Option ℤ) → words_of (CallLine (l ∷ []) (CreateAct (new_without_bitmap kind place numbers backdrop hook))) ≡ in_front (codes "create") l kind place numbers (flag_words (codes "backdrop") backdrop ++ hook_words hook)) → IfSome (create_without_bitmap l kind place numbers ts) (IsNewLayerSpelt (codes "create") l place numbers kind ts)
 created_without_bitmap l kind place numbers ts w =
     let backdrop = flag (codes "backdrop") ts in
     let hook = hook_option backdrop.1 in
     end_has (IsNewLayerSpelt (codes "create") l place numbers kind ts) _ hook.1 (λ e t v r.
-    let k = and_parts (rect_fits numbers) _ r in
+    let k = and_parts (rect_fits (bounds numbers)) _ r in
     let m = and_parts (is_hook_number hook.0) _ k.1 in
     let one = flag_taken (codes "backdrop") ts t in
     let two = hook_taken backdrop.1 one.1 m.0 in
@@ -115,11 +115,11 @@ created_without_bitmap l kind place numbers ts w =
     ))
 
 -- BW BH [backdrop]
-super_created : (l : List ℕ) (place : Place) (numbers : Rectangle) (ts : List Token) → IfSome (create_super l place numbers ts) (IsNewLayerSpelt (codes "create") l place numbers SuperBitmap ts)
+super_created : (l : List ℕ) (place : Place) (numbers : Four) (ts : List Token) → IfSome (create_super l place numbers ts) (IsNewLayerSpelt (codes "create") l place numbers SuperBitmap ts)
 super_created l place numbers (NumberToken a w ∷ NumberToken b h ∷ ts) =
     let backdrop = flag (codes "backdrop") ts in
     end_has (IsNewLayerSpelt (codes "create") l place numbers SuperBitmap (NumberToken a w ∷ NumberToken b h ∷ ts)) _ backdrop.1 (λ e t v r.
-    let k = and_parts (rect_fits numbers) _ r in
+    let k = and_parts (rect_fits (bounds numbers)) _ r in
     let m = and_parts (within (pos 1) w (pos 2048)) _ k.1 in
     let one = flag_taken (codes "backdrop") ts t.1.1 in
     let end : flag_words (codes "backdrop") backdrop.0 ≡ map token_word ts = sym (one.0 ∙ (ap (λ rest. flag_words (codes "backdrop") backdrop.0 ++ map token_word rest) e ∙ append-nil (flag_words (codes "backdrop") backdrop.0))) in (
@@ -128,7 +128,7 @@ super_created l place numbers (NumberToken a w ∷ NumberToken b h ∷ ts) =
     ))
 super_created l place numbers _ = tt
 
-created_spelt : (l : List ℕ) (place : Place) (numbers : Rectangle) (ts : List Token) (kind : Kind) → IfSome (create_kind l place numbers ts kind) (IsNewLayerSpelt (codes "create") l place numbers kind ts)
+created_spelt : (l : List ℕ) (place : Place) (numbers : Four) (ts : List Token) (kind : Kind) → IfSome (create_kind l place numbers ts kind) (IsNewLayerSpelt (codes "create") l place numbers kind ts)
 created_spelt l place numbers ts Simple = created_without_bitmap l Simple place numbers ts (λ b h. refl)
 created_spelt l place numbers ts Smart = created_without_bitmap l Smart place numbers ts (λ b h. refl)
 created_spelt l place numbers ts SuperBitmap = super_created l place numbers ts
@@ -139,7 +139,7 @@ not_twice true = refl
 not_twice false = refl
 
 -- [backdrop] [borderless] [nocare] [hook N] [ask SET] "TITLE"
-opened_without_bitmap : (l : List ℕ) (kind : Kind) (place : Place) (numbers : Rectangle) (ts : List Token) → ((backdrop : Bool) (hook : Option ℤ) (framed nocare : Bool) (classes : ℕ) (title : List ℕ) → words_of (CallLine (l ∷ []) (OpenAct (new_without_bitmap kind place numbers backdrop hook) framed nocare classes title)) ≡ in_front (codes "open") l kind place numbers (((((flag_words (codes "backdrop") backdrop ++ flag_words (codes "borderless") (not framed)) ++ flag_words (codes "nocare") nocare) ++ hook_words hook) ++ ask_words classes) ++ text_word title ∷ [])) → IfSome (open_without_bitmap l kind place numbers ts) (IsNewLayerSpelt (codes "open") l place numbers kind ts)
+opened_without_bitmap : (l : List ℕ) (kind : Kind) (place : Place) (numbers : Four) (ts : List Token) → ((backdrop : Bool) (hook : Option ℤ) (framed nocare : Bool) (classes : ℕ) (title : List ℕ) → words_of (CallLine (l ∷ []) (OpenAct (new_without_bitmap kind place numbers backdrop hook) framed nocare classes title)) ≡ in_front (codes "open") l kind place numbers (((((flag_words (codes "backdrop") backdrop ++ flag_words (codes "borderless") (not framed)) ++ flag_words (codes "nocare") nocare) ++ hook_words hook) ++ ask_words classes) ++ text_word title ∷ [])) → IfSome (open_without_bitmap l kind place numbers ts) (IsNewLayerSpelt (codes "open") l place numbers kind ts)
 opened_without_bitmap l kind place numbers ts w =
     let backdrop = flag (codes "backdrop") ts in
     let borderless = flag (codes "borderless") backdrop.1 in
@@ -170,7 +170,7 @@ opened_without_bitmap l kind place numbers ts w =
     five_append a b c d e f = simp append_assoc
 
 -- BW BH [backdrop] [ask SET] "TITLE"
-super_opened : (l : List ℕ) (place : Place) (numbers : Rectangle) (ts : List Token) → IfSome (open_super l place numbers ts) (IsNewLayerSpelt (codes "open") l place numbers SuperBitmap ts)
+super_opened : (l : List ℕ) (place : Place) (numbers : Four) (ts : List Token) → IfSome (open_super l place numbers ts) (IsNewLayerSpelt (codes "open") l place numbers SuperBitmap ts)
 super_opened l place numbers (NumberToken a w ∷ NumberToken b h ∷ ts) =
     let backdrop = flag (codes "backdrop") ts in
     let ask = ask_option backdrop.1 in
@@ -186,7 +186,7 @@ super_opened l place numbers (NumberToken a w ∷ NumberToken b h ∷ ts) =
     ))
 super_opened l place numbers _ = tt
 
-opened_spelt : (l : List ℕ) (place : Place) (numbers : Rectangle) (ts : List Token) (kind : Kind) → IfSome (open_kind l place numbers ts kind) (IsNewLayerSpelt (codes "open") l place numbers kind ts)
+opened_spelt : (l : List ℕ) (place : Place) (numbers : Four) (ts : List Token) (kind : Kind) → IfSome (open_kind l place numbers ts kind) (IsNewLayerSpelt (codes "open") l place numbers kind ts)
 opened_spelt l place numbers ts Simple = opened_without_bitmap l Simple place numbers ts (λ b h f n c t. refl)
 opened_spelt l place numbers ts Smart = opened_without_bitmap l Smart place numbers ts (λ b h f n c t. refl)
 opened_spelt l place numbers ts SuperBitmap = super_opened l place numbers ts
@@ -208,7 +208,7 @@ then_by Q P g None q h = tt
 then_by Q P g (Some a) q h = h a q
 
 -- create L KIND PLACE X0 Y0 X1 Y1 .., and open L KIND PLACE X Y W H ..
-new_layer_spelt : (word : List ℕ) (behind : List ℕ → Place → Rectangle → List Token → Kind → Option Statement) → ((l : List ℕ) (place : Place) (numbers : Rectangle) (ts : List Token) (kind : Kind) → IfSome (behind l place numbers ts kind) (IsNewLayerSpelt word l place numbers kind ts)) → (ts : List Token) → IfSome (new_layer_line behind ts) (IsSpelt word ts)
+new_layer_spelt : (word : List ℕ) (behind : List ℕ → Place → Four → List Token → Kind → Option Statement) → ((l : List ℕ) (place : Place) (numbers : Four) (ts : List Token) (kind : Kind) → IfSome (behind l place numbers ts kind) (IsNewLayerSpelt word l place numbers kind ts)) → (ts : List Token) → IfSome (new_layer_line behind ts) (IsSpelt word ts)
 new_layer_spelt word behind made (NameToken l ∷ NameToken k ∷ NameToken p ∷ NumberToken a x ∷ NumberToken b y ∷ NumberToken c z ∷ NumberToken d w ∷ ts) =
     then_by (λ place. p ≡ place_word place) P _ (place_of p) (place_spelt p) (λ place e. then_by (λ kind. k ≡ kind_word kind) P _ (kind_of k) (kind_spelt k) (λ kind f. at_statement place kind e f (behind l place (four x y z w) ts kind) (made l place (four x y z w) ts kind)))
   where

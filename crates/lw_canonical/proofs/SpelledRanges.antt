@@ -1,11 +1,11 @@
 -- Numbers in the ranges of a script's lines lie below the cap, so they are written as they were read.
 use Rattle.std.proofs.Common.{◌≡◌, ℕ, ◌<◌, ◌≤◌, true, ◌&&◌, List, ◌∷◌, ℤ, pos, negsuc, unsigned_abs, Some, arith}
-use Rattle.lw_region.specs.Rectangle.{Rectangle, within}
+use Rattle.lw_region.specs.Rectangle.{within}
 use Rattle.lw_calls.specs.Limits.{is_coordinate, axis_fits, rect_fits, coordinates_fit, is_extent}
 use Rattle.lw_grammar.specs.Tokens.{cap}
 use Rattle.lw_grammar.specs.declared.verb.NumberVerb.{NumberVerb}
 use Rattle.lw_grammar.specs.declared.verb.NumberVerb.TheVariants.{Mode as ModeVerb, Clip as ClipVerb, Hook as HookVerb}
-use Rattle.lw_grammar.specs.Statements.{greatest_hook, is_hook_number, place_and_size_fit, greatest_number, are_sizes_in_range}
+use Rattle.lw_grammar.specs.Statements.{greatest_hook, is_hook_number, place_and_size_fit, greatest_number, are_sizes_in_range, Four, bounds}
 use Rattle.lw_canonical.proofs.SpelledNumbers.{small_in}
 use Rattle.std.proofs.lemmas.Bool.{and_parts}
 
@@ -56,8 +56,8 @@ sizes_small limit w h d low r =
     (side w s.0, (side h s.1, small_in (pos 1) d (pos 8) k.1 (omega arith) (omega arith)))
 
 -- each number of four
-abbrev pub AreSmall : Rectangle → Type 0
-AreSmall r = IsSmall r.min_x × (IsSmall r.min_y × (IsSmall r.max_x × IsSmall r.max_y))
+abbrev pub AreSmall : Four → Type 0
+AreSmall r = IsSmall r.first × (IsSmall r.second × (IsSmall r.third × IsSmall r.fourth))
 
 -- the bounds along one axis
 axis_small : (low high : ℤ) → axis_fits low high ≡ true → IsSmall low × IsSmall high
@@ -67,19 +67,19 @@ axis_small low high h =
     places_small low high k.0
 
 -- a rectangle, and a place with a size
-pub rect_small : (r : Rectangle) → rect_fits r ≡ true → AreSmall r
+pub rect_small : (r : Four) → rect_fits (bounds r) ≡ true → AreSmall r
 rect_small r h =
-    let k = and_parts (axis_fits r.min_x r.max_x) (axis_fits r.min_y r.max_y) h in
-    let x = axis_small r.min_x r.max_x k.0 in
-    let y = axis_small r.min_y r.max_y k.1 in
+    let k = and_parts (axis_fits r.first r.third) (axis_fits r.second r.fourth) h in
+    let x = axis_small r.first r.third k.0 in
+    let y = axis_small r.second r.fourth k.1 in
     (x.0, (y.0, (x.1, y.1)))
 
-pub place_and_size_small : (r : Rectangle) → place_and_size_fit r ≡ true → AreSmall r
+pub place_and_size_small : (r : Four) → place_and_size_fit r ≡ true → AreSmall r
 place_and_size_small r h =
-    let k = and_parts (coordinates_fit r.min_x r.min_y) (is_extent r.max_x && is_extent r.max_y) h in
-    let place = places_small r.min_x r.min_y k.0 in
-    let size = and_parts (is_extent r.max_x) (is_extent r.max_y) k.1 in
-    (place.0, (place.1, (size_small r.max_x size.0, size_small r.max_y size.1)))
+    let k = and_parts (coordinates_fit r.first r.second) (is_extent r.third && is_extent r.fourth) h in
+    let place = places_small r.first r.second k.0 in
+    let size = and_parts (is_extent r.third) (is_extent r.fourth) k.1 in
+    (place.0, (place.1, (size_small r.third size.0, size_small r.fourth size.1)))
 
 -- a list with an equal head and an equal tail is equal
 pub also : {A : Type 0} {x y : A} {xs ys : List A} → x ≡ y → xs ≡ ys → x ∷ xs ≡ y ∷ ys

@@ -2,7 +2,7 @@
 use Rattle.std.proofs.Common.{◌≡◌, ℕ, ◌+◌, ◌*◌, ◌/◌, ◌%◌, ◌≤◌, ◌==◌, true, ◌&&◌, nat_le, List, [], ◌∷◌, length, map, ℤ, pos, codes, bytes_eq, Option, Some, None, option_map, option_and_then, IfSome, refl, sym, ap₂, ◌∙◌, arith}
 use Rattle.std.specs.List.{list_all}
 use Rattle.std.specs.Fmt.{signed_decimal}
-use Rattle.lw_region.specs.Rectangle.{Rectangle, within}
+use Rattle.lw_region.specs.Rectangle.{within}
 use Rattle.lw_planes.specs.Bitmap.{row_bytes}
 use Rattle.lw_calls.specs.declared.operation.RectOp.{RectOp}
 use Rattle.lw_calls.specs.declared.operation.PairOp.{PairOp}
@@ -17,7 +17,8 @@ use Rattle.lw_grammar.specs.declared.verb.NumberVerb.{NumberVerb}
 use Rattle.lw_grammar.specs.declared.verb.PairVerb.{PairVerb}
 use Rattle.lw_grammar.specs.declared.verb.TextVerb.{TextVerb}
 use Rattle.lw_grammar.specs.Verbs.{part_word, bare_word, number_word, pair_word, text_verb_word, rect_word, region_word}
-use Rattle.lw_grammar.specs.Statements.{Act, Statement, LayersLine, RowLine, PatternLine, TaskLine, EndLine, OrderLine, NumbersLine, ReportLine, LockLine, UnlockLine, HoldLine, ReleaseLine, four, layers_line, screen_line, glyph_of_bytes, glyph_line, bitmap_line, row_line, pattern_word, pattern_words, is_pattern_count, pattern_line, all_numbers, numbers_limit, numbers_line, name_line, alone_line, part_line, layer_line, number_line, pair_line, text_line, rect_line, region_line, clear_line, which_line, infront_line, four_line, scrollraster_line, minterm_of, put_line, blit_line, endrefresh_line, is_area_in_range, is_act_in_range, version_at_screen, bitmap_size_limit, is_line_in_range}
+use Rattle.lw_area.specs.Patterns.{is_pattern_count}
+use Rattle.lw_grammar.specs.Statements.{Act, Statement, LayersLine, RowLine, PatternLine, TaskLine, EndLine, OrderLine, NumbersLine, ReportLine, LockLine, UnlockLine, HoldLine, ReleaseLine, four, layers_line, screen_line, glyph_of_bytes, glyph_line, bitmap_line, row_line, pattern_word, pattern_words, pattern_line, all_numbers, numbers_limit, numbers_line, name_line, alone_line, part_line, layer_line, number_line, pair_line, text_line, rect_line, region_line, clear_line, which_line, infront_line, four_line, scrollraster_line, minterm_of, put_line, blit_line, endrefresh_line, is_area_in_range, is_act_in_range, version_at_screen, bitmap_size_limit, is_line_in_range, Four}
 use Rattle.lw_calls.specs.Written.{hex_byte}
 use Rattle.lw_canonical.specs.Spelling.{hex_word, four_words, call_words, pattern_digits, words_of}
 use Rattle.lw_grammar.proofs.ScriptStatements.{either_has, map_has, twice_has, AreSoMany, token_spelled}
@@ -177,7 +178,7 @@ text_spelt verb (NameToken l ∷ TextToken text ∷ []) = λ t v r. refl
 text_spelt verb _ = tt
 
 -- a verb with a layer and four numbers
-pub four_spelt : (word : List ℕ) (act : Rectangle → Act) → ((l : List ℕ) (r : Rectangle) → call_words (l ∷ []) (act r) ≡ word ∷ l ∷ four_words r) → ((r : Rectangle) → is_act_in_range (act r) ≡ true → AreSmall r) → (ts : List Token) → IfSome (four_line act ts) (IsSpelt word ts)
+pub four_spelt : (word : List ℕ) (act : Four → Act) → ((l : List ℕ) (r : Four) → call_words (l ∷ []) (act r) ≡ word ∷ l ∷ four_words r) → ((r : Four) → is_act_in_range (act r) ≡ true → AreSmall r) → (ts : List Token) → IfSome (four_line act ts) (IsSpelt word ts)
 four_spelt word act k small (NameToken l ∷ NumberToken a x ∷ NumberToken b y ∷ NumberToken c w ∷ NumberToken d h ∷ []) = λ t v r.
     let s = small (four x y w h) r in
     k l (four x y w h) ∙ also refl (also refl (also (t.1.0 s.0) (also (t.1.1.0 s.1.0) (also (t.1.1.1.0 s.1.1.0) (also (t.1.1.1.1.0 s.1.1.1) refl)))))

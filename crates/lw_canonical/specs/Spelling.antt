@@ -10,7 +10,7 @@ use Rattle.lw_calls.specs.declared.make.Place.{Place}
 use Rattle.lw_calls.specs.declared.make.Place.TheVariants.{Front, Behind}
 use Rattle.lw_grammar.specs.Tokens.{space, quote}
 use Rattle.lw_grammar.specs.Verbs.{bare_word, number_word, pair_word, text_verb_word, rect_word, region_word}
-use Rattle.lw_grammar.specs.Statements.{NewLayer, Act, BareAct, NumberAct, PairAct, TextAct, RegRectAct, RegPairAct, RegClearAct, CreateAct, OpenAct, InFrontAct, BoxAct, WhichAct, FillAct, ScrollRasterAct, PutAct, BlitAct, EndRefreshAct, Statement, LayersLine, ScreenLine, GlyphLine, BitmapLine, RowLine, PatternLine, TaskLine, EndLine, OrderLine, NumbersLine, ReportLine, CallLine, LockLine, UnlockLine, HoldLine, ReleaseLine, NameSeen, PairMade, GzzAct, OpenGzz, BoxGzz, FrontGzz, BehindGzz, InFrontGzz, CloseGzz, Line, StatementLine, AreaLine, GzzLine}
+use Rattle.lw_grammar.specs.Statements.{Four, NewLayer, Act, BareAct, NumberAct, PairAct, TextAct, RegRectAct, RegPairAct, RegClearAct, CreateAct, OpenAct, InFrontAct, BoxAct, WhichAct, FillAct, ScrollRasterAct, PutAct, BlitAct, EndRefreshAct, Statement, LayersLine, ScreenLine, GlyphLine, BitmapLine, RowLine, PatternLine, TaskLine, EndLine, OrderLine, NumbersLine, ReportLine, CallLine, LockLine, UnlockLine, HoldLine, ReleaseLine, NameSeen, PairMade, GzzAct, OpenGzz, BoxGzz, FrontGzz, BehindGzz, InFrontGzz, CloseGzz, Line, StatementLine, AreaLine, GzzLine, four}
 use Rattle.lw_calls.specs.Written.{hex_byte}
 
 -- words with single spaces between them
@@ -28,8 +28,12 @@ abbrev pub hex_word : List ℕ → List ℕ
 hex_word bytes = flat_map hex_byte bytes
 
 -- four numbers
-abbrev pub four_words : Rectangle → List (List ℕ)
-four_words r = signed_decimal r.min_x ∷ signed_decimal r.min_y ∷ signed_decimal r.max_x ∷ signed_decimal r.max_y ∷ []
+abbrev pub four_words : Four → List (List ℕ)
+four_words n = signed_decimal n.first ∷ signed_decimal n.second ∷ signed_decimal n.third ∷ signed_decimal n.fourth ∷ []
+
+-- those of a rectangle: its bounds
+abbrev pub bounds_words : Rectangle → List (List ℕ)
+bounds_words r = four_words (four r.min_x r.min_y r.max_x r.max_y)
 
 -- the words of a layer's kind and of its place
 abbrev pub kind_word : Kind → List ℕ
@@ -90,7 +94,7 @@ call_words layers (BareAct verb) = bare_word verb ∷ layers
 call_words layers (NumberAct verb z) = number_word verb ∷ layers ++ signed_decimal z ∷ []
 call_words layers (PairAct verb x y) = pair_word verb ∷ layers ++ signed_decimal x ∷ signed_decimal y ∷ []
 call_words layers (TextAct verb text) = text_verb_word verb ∷ layers ++ text_word text ∷ []
-call_words layers (RegRectAct op r rect) = rect_word op ∷ signed_decimal r ∷ four_words rect
+call_words layers (RegRectAct op r rect) = rect_word op ∷ signed_decimal r ∷ bounds_words rect
 call_words layers (RegPairAct op s r) = region_word op ∷ signed_decimal s ∷ signed_decimal r ∷ []
 call_words layers (RegClearAct r) = codes "clearregion" ∷ signed_decimal r ∷ []
 call_words layers (CreateAct a) =
@@ -101,9 +105,9 @@ call_words layers (OpenAct a framed nocare classes title) =
 call_words layers InFrontAct = codes "infront" ∷ layers
 call_words layers (BoxAct r) = codes "box" ∷ layers ++ four_words r
 call_words layers (WhichAct x y) = codes "which" ∷ signed_decimal x ∷ signed_decimal y ∷ []
-call_words layers (FillAct rect) = codes "fill" ∷ layers ++ four_words rect
+call_words layers (FillAct rect) = codes "fill" ∷ layers ++ bounds_words rect
 call_words layers (ScrollRasterAct dx dy rect) =
-    codes "scrollraster" ∷ layers ++ signed_decimal dx ∷ signed_decimal dy ∷ four_words rect
+    codes "scrollraster" ∷ layers ++ signed_decimal dx ∷ signed_decimal dy ∷ bounds_words rect
 call_words layers (PutAct bm b) =
     codes "put" ∷ bm ∷ signed_decimal b.sx ∷ signed_decimal b.sy ∷ layers
     ++ signed_decimal b.x ∷ signed_decimal b.y ∷ signed_decimal b.w ∷ signed_decimal b.h ∷ hex_byte b.minterm ∷ []

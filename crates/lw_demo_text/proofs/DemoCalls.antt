@@ -15,7 +15,7 @@ use Rattle.lw_grammar.specs.declared.verb.PairVerb.TheVariants.{Read as ReadVerb
 use Rattle.lw_grammar.specs.declared.verb.Verb.TheVariants.{Bare, Number, Pair, Create as CreateVerb, Fill as FillVerb}
 use Rattle.lw_grammar.specs.Tokens.{NameToken, token_of}
 use Rattle.lw_grammar.specs.Verbs.{verb_of}
-use Rattle.lw_grammar.specs.Statements.{NewLayer, BareAct, NumberAct, PairAct, CreateAct, FillAct, four, line_by, new_without_bitmap}
+use Rattle.lw_grammar.specs.Statements.{NewLayer, BareAct, NumberAct, PairAct, CreateAct, FillAct, four, line_by, new_without_bitmap, bounds}
 use Rattle.lw_grammar.specs.Told.{spelled_call}
 use Rattle.lw_canonical.specs.Spelling.{kind_word, place_word}
 use Rattle.lw_gen.specs.Demo.{layer_between}
@@ -118,7 +118,7 @@ module _ (l : List ℕ) (plain_name : is_plain l ≡ true) (name : token_of l �
       }
 
   module _ (x0 y0 x1 y1 : ℕ) (wide : x0 ≤ x1) (right : x1 < 1000) (high : y0 ≤ y1) (lower : y1 < 1000) where
-    fits : rect_fits (four (pos x0) (pos y0) (pos x1) (pos y1)) ≡ true
+    fits : rect_fits (bounds (four (pos x0) (pos y0) (pos x1) (pos y1))) ≡ true
     fits = and_from (axis_fits (pos x0) (pos x1)) (axis_fits (pos y0) (pos y1)) (axis x0 x1 wide right) (axis y0 y1 high lower)
 
     a : IsNumber (pos x0)
@@ -137,7 +137,7 @@ module _ (l : List ℕ) (plain_name : is_plain l ≡ true) (name : token_of l �
     words_plain = and_from (is_plain l) _ plain_name (and_from (is_plain (decimal x0)) _ a.plain (and_from (is_plain (decimal y0)) _ b.plain (and_from (is_plain (decimal x1)) _ c.plain (and_from (is_plain (decimal y1)) true d.plain refl))))
 
     -- fill L X0 Y0 X1 Y1
-    pub fill_readable : IsReadable l (FillAct (four (pos x0) (pos y0) (pos x1) (pos y1)))
+    pub fill_readable : IsReadable l (FillAct (bounds (four (pos x0) (pos y0) (pos x1) (pos y1))))
     unfolding verb_of
     fill_readable = record {
       verb = FillVerb;
@@ -171,7 +171,7 @@ module _ (l : List ℕ) (plain_name : is_plain l ≡ true) (name : token_of l �
       made = λ i. line_by CreateVerb (name i ∷ NameToken (kind_word Simple) ∷ NameToken (place_word Front) ∷ a.token i ∷ b.token i ∷ c.token i ∷ d.token i ∷ []);
       belongs = refl;
       stands = refl;
-      range = and_from (rect_fits (four (pos x0) (pos y0) (pos x1) (pos y1))) true fits refl;
+      range = and_from (rect_fits (bounds (four (pos x0) (pos y0) (pos x1) (pos y1)))) true fits refl;
       bitmaps = refl;
       group = refl;
       hook = refl;
@@ -191,7 +191,7 @@ module _ (l : List ℕ) (plain_name : is_plain l ≡ true) (name : token_of l �
       made = λ i. line_by CreateVerb (name i ∷ NameToken (kind_word Smart) ∷ NameToken (place_word Front) ∷ a.token i ∷ b.token i ∷ c.token i ∷ d.token i ∷ []);
       belongs = refl;
       stands = refl;
-      range = and_from (rect_fits (four (pos x0) (pos y0) (pos x1) (pos y1))) true fits refl;
+      range = and_from (rect_fits (bounds (four (pos x0) (pos y0) (pos x1) (pos y1)))) true fits refl;
       bitmaps = refl;
       group = refl;
       hook = refl;

@@ -14,7 +14,7 @@ use Rattle.lw_grammar.specs.Verbs.{verb_of}
 use Rattle.lw_grammar.specs.declared.verb.BareVerb.TheVariants.{Front as FrontVerb}
 use Rattle.lw_grammar.specs.declared.verb.NumberVerb.TheVariants.{APen as APenVerb}
 use Rattle.lw_grammar.specs.declared.verb.PairVerb.TheVariants.{Read as ReadVerb}
-use Rattle.lw_grammar.specs.Statements.{Act, BareAct, NumberAct, PairAct, CreateAct, FillAct, ScreenLine, TaskLine, EndLine, four, line_by}
+use Rattle.lw_grammar.specs.Statements.{Act, BareAct, NumberAct, PairAct, CreateAct, FillAct, ScreenLine, TaskLine, EndLine, four, line_by, bounds}
 use Rattle.lw_grammar.specs.Told.{Section, AssetsAreDue, CallsAreDue, TasksAreDue, Told, nothing_told, spelled_call, plan_of}
 use Rattle.lw_grammar.specs.Script.{are_assets_due, are_tasks_due, are_numbers_due, is_nothing_due}
 use Rattle.lw_grammar.proofs.ScriptTasks.{onto_pushed}
@@ -79,7 +79,7 @@ module _ (tasks : List (List ℕ)) (few_tasks : length tasks ≤ 16) (calls : Li
           let y0 = picked 192 (stirred (stirred x)) in
           let x1 = x0 + picked 16 (stirred (stirred (stirred x))) in
           let y1 = y0 + picked 16 (stirred (stirred (stirred (stirred x)))) in
-          one_more names names (layer_name task layer) (3 * task + layer) n done (FillAct (four (pos x0) (pos y0) (pos x1) (pos y1))) _ more named (fill_readable (layer_name task layer) named.plain named.name x0 y0 x1 y1 (omega arith) (omega (arith, left, few, right)) (omega arith) (omega (arith, upper, lower))) refl reached
+          one_more names names (layer_name task layer) (3 * task + layer) n done (FillAct (bounds (four (pos x0) (pos y0) (pos x1) (pos y1)))) _ more named (fill_readable (layer_name task layer) named.plain named.name x0 y0 x1 y1 (omega arith) (omega (arith, left, few, right)) (omega arith) (omega (arith, upper, lower))) refl reached
       chosen_more false true c layer n x done small more reached =
           let named = known_layer task layer low small in
           one_more names names (layer_name task layer) (3 * task + layer) n done (NumberAct APenVerb (pos (picked 4 (stirred x)))) _ more named (pen_readable (layer_name task layer) named.plain named.name (picked 4 (stirred x)) (picked_below 4 (stirred x) (omega arith))) refl reached

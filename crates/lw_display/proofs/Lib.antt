@@ -2,7 +2,6 @@ mod ScriptLines
 mod NamesKept
 mod FirstBad
 mod LinesPass
-mod OrderFew
 mod SceneSteps
 mod SceneAdded
 pub mod Showable

@@ -1,6 +1,7 @@
 -- Shows and their texts, and bytes that are none, each with its first bad line.
-use Rattle.std.specs.Prelude.{ℕ, ◌==◌, if◌then◌else◌, List, [], ◌∷◌, ◌++◌, map, codes, Result, Ok, Err}
+use Rattle.std.specs.Prelude.{ℕ, List, [], ◌∷◌, ◌++◌, codes, Result, Ok, Err}
 use Rattle.std.specs.List.{flat_map}
+use Rattle.lw_screens.specs.Cases.{text}
 use Rattle.lw_grammar.specs.declared.reason.Reason.{Reason}
 use Rattle.lw_grammar.specs.declared.reason.Reason.TheVariants.{UnknownWord, Misplaced, Form as FormReason, Range, NoName, DoubleName, TooMany, NoHook, Missing}
 use Rattle.lw_display.specs.declared.reason.ShowReason.{ShowReason}
@@ -8,10 +9,6 @@ use Rattle.lw_display.specs.declared.reason.ShowReason.TheVariants.{Line, BadOrd
 use Rattle.lw_display.specs.Shows.{ShowInput}
 use Rattle.lw_display.specs.ShowRule.{show_of, IsBadShow}
 use Rattle.lw_display.specs.ShowTexts.{show_text}
-
--- A text of lines. Each line feed is written as a stroke, which stands in no text here.
-abbrev pub text : List ℕ → List ℕ
-text lines = map (λ b. if b == 47 then 10 else b) lines
 
 -- the text of what bytes show, and no text where they are no show
 abbrev pub text_shown_by : Result ShowInput (ℕ × ShowReason) → List ℕ

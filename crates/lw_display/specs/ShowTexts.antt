@@ -2,8 +2,7 @@
 use Rattle.std.specs.Prelude.{ℕ, List, [], map}
 use Rattle.lw_planes.specs.Bitmap.{Bitmap}
 use Rattle.lw_machine.specs.Finals.{run_final}
-use Rattle.lw_screens.specs.Display.{Display, opened}
-use Rattle.lw_screens.specs.Laws.{after_all}
+use Rattle.lw_screens.specs.Display.{Display, opened, after_all}
 use Rattle.lw_screens.specs.Text.{display_text}
 use Rattle.lw_display.specs.Shows.{SceneInput, ShowInput, scene_names}
 

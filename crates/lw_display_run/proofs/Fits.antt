@@ -10,9 +10,8 @@ use Rattle.lw_machine.specs.Finals.{opening_desk}
 use Rattle.lw_machine.specs.History.{machine}
 use Rattle.lw_machine.specs.Screen.{screen}
 use Rattle.lw_engine_trait.proofs.Histories.{machine_sizes}
-use Rattle.lw_screens.specs.Display.{Display, IsHigh, acted_on, screen_of, dragged, with_top, after, placed}
+use Rattle.lw_screens.specs.Display.{Display, IsHigh, acted_on, screen_of, dragged, with_top, after, placed, after_all}
 use Rattle.lw_screens.specs.Composed.{bitmap_of, HavePlanes}
-use Rattle.lw_screens.specs.Laws.{after_all}
 use Rattle.lw_screens.specs.Text.{display_text}
 use Rattle.lw_screens.specs.declared.act.Act.{Act}
 use Rattle.lw_screens.specs.declared.act.Act.TheVariants.{Drag, ToFront, ToBack}

@@ -2,8 +2,7 @@
 
 ghost use Rattle.std.specs.Prelude.{◌≡◌, ◌<◌, length, map, IfOk, OnOk};
 ghost use Rattle.std.specs.List.{All};
-ghost use Rattle.lw_screens.specs.Display.{acted_on};
-ghost use Rattle.lw_screens.specs.Laws.{after_all};
+ghost use Rattle.lw_screens.specs.Display.{acted_on, after_all};
 ghost use Rattle.lw_display.specs.ShowAnswers.{scene_meaning, show_meaning};
 ghost use Rattle.lw_display.specs.ShowLaws.{IsShowable};
 ghost use Rattle.lw_display.specs.ShowTexts.{display_opened, show_text};

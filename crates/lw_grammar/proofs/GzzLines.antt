@@ -1,6 +1,6 @@
 -- The statements that a line stands for which is done with a window of two layers are good where they stand.
 use Rattle.std.proofs.Common.{◌≡◌, ℕ, ◌+◌, ◌<◌, ◌≤◌, ◌==◌, Bool, true, false, not, cond, ◌&&◌, List, [], ◌∷◌, ◌++◌, length, ℤ, pos, ◌+ℤ◌, ◌-ℤ◌, Option, Some, None, is_none, Ok, refl, sym, ap, subst, ◌∙◌, arith}
-use Rattle.lw_region.specs.Rectangle.{Rectangle, within}
+use Rattle.lw_region.specs.Rectangle.{within}
 use Rattle.lw_calls.specs.declared.make.Kind.{Kind}
 use Rattle.lw_calls.specs.declared.make.Kind.TheVariants.{Simple, Smart, SuperBitmap}
 use Rattle.lw_calls.specs.declared.make.Place.{Place}
@@ -9,7 +9,7 @@ use Rattle.lw_calls.specs.Limits.{limits_of, is_coordinate, is_extent, coordinat
 use Rattle.lw_calls.specs.Kinds.{is_super}
 use Rattle.lw_calls.proofs.LimitLaws.{screen_at_most}
 use Rattle.lw_grammar.specs.declared.verb.BareVerb.TheVariants.{Close as CloseVerb, Front as FrontVerb, Behind as BehindVerb}
-use Rattle.lw_grammar.specs.Statements.{Act, BareAct, OpenAct, InFrontAct, BoxAct, layers_of, Statement, CallLine, HoldLine, ReleaseLine, PairMade, GzzAct, OpenGzz, BoxGzz, FrontGzz, BehindGzz, InFrontGzz, CloseGzz, GzzLine, new_without_bitmap, is_act_in_range, place_and_size_fit, is_gzz_box, is_gzz_in_range}
+use Rattle.lw_grammar.specs.Statements.{Act, BareAct, OpenAct, InFrontAct, BoxAct, layers_of, Statement, CallLine, HoldLine, ReleaseLine, PairMade, GzzAct, OpenGzz, BoxGzz, FrontGzz, BehindGzz, InFrontGzz, CloseGzz, GzzLine, new_without_bitmap, is_act_in_range, place_and_size_fit, is_gzz_box, is_gzz_in_range, Four}
 use Rattle.lw_grammar.specs.Told.{OpenGroup, Held, Told, makes_super, hook_on, left_open_by, began_by, inner_box, gzz_calls, inner_by, stands_for, told_with, told, told_all}
 use Rattle.lw_grammar.specs.Script.{Setting, are_calls_due, lacks_name, is_on_all, group_allows, lacks_pair, names_again, comes_between, is_hold, is_no_hook, is_used, are_few, gzz_tested, added}
 use Rattle.lw_grammar.specs.GoodLines.{is_known_act, IsActMade, IsGoodLine, AreGoodLines}
@@ -46,15 +46,15 @@ unfolding within
 axis_small least before whole most x w a b c d e f g = grind (arith, ints, nat_tests)
 
 -- so both boxes are ones that a window may have
-pub boxes_fit : (width height : ℕ) (r : Rectangle) → width ≤ 32767 → height ≤ 32767 → is_gzz_box width height r ≡ true → (place_and_size_fit r ≡ true) × (place_and_size_fit (inner_box r) ≡ true)
+pub boxes_fit : (width height : ℕ) (r : Four) → width ≤ 32767 → height ≤ 32767 → is_gzz_box width height r ≡ true → (place_and_size_fit r ≡ true) × (place_and_size_fit (inner_box r) ≡ true)
 boxes_fit width height r wide high h =
-    let corner = and_parts (coordinates_fit r.min_x r.min_y) _ h in
-    let rest = and_parts (within (pos 9) r.max_x (pos width) && within (pos 14) r.max_y (pos height)) _ corner.1 in
-    let low = and_parts (is_coordinate r.min_x) _ corner.0 in
-    let size = and_parts (within (pos 9) r.max_x (pos width)) _ rest.0 in
-    let far = and_parts (is_coordinate ((r.min_x +ℤ r.max_x) -ℤ pos 1)) _ rest.1 in
-    let x = axis_small 9 4 8 width r.min_x r.max_x (omega arith) (omega arith) (omega arith) wide low.0 size.0 far.0 in
-    let y = axis_small 14 11 13 height r.min_y r.max_y (omega arith) (omega arith) (omega arith) high low.1 size.1 far.1 in
+    let corner = and_parts (coordinates_fit r.first r.second) _ h in
+    let rest = and_parts (within (pos 9) r.third (pos width) && within (pos 14) r.fourth (pos height)) _ corner.1 in
+    let low = and_parts (is_coordinate r.first) _ corner.0 in
+    let size = and_parts (within (pos 9) r.third (pos width)) _ rest.0 in
+    let far = and_parts (is_coordinate ((r.first +ℤ r.third) -ℤ pos 1)) _ rest.1 in
+    let x = axis_small 9 4 8 width r.first r.third (omega arith) (omega arith) (omega arith) wide low.0 size.0 far.0 in
+    let y = axis_small 14 11 13 height r.second r.fourth (omega arith) (omega arith) (omega arith) high low.1 size.1 far.1 in
     (and_from _ _ corner.0 (and_from _ _ x.0 y.0), and_from _ _ (and_from _ _ x.1 y.1) (and_from _ _ x.2 y.2))
 
 -- A call of a hold group that neither begins nor ends an update and names no hook and no bitmap.
@@ -87,10 +87,10 @@ close_held l = record { long = refl; made = tt; range = refl; all = refl; named 
 infront_held : (l m : List ℕ) → IsHeldCall (l ∷ m ∷ []) InFrontAct
 infront_held l m = record { long = refl; made = tt; range = refl; all = refl; named = λ names. refl; known = λ v. refl; hook = refl; open_ = λ o. refl; begun = λ m n. refl }
 
-box_held : (l : List ℕ) (r : Rectangle) → place_and_size_fit r ≡ true → IsHeldCall (l ∷ []) (BoxAct r)
+box_held : (l : List ℕ) (r : Four) → place_and_size_fit r ≡ true → IsHeldCall (l ∷ []) (BoxAct r)
 box_held l r h = record { long = refl; made = tt; range = h; all = refl; named = λ names. refl; known = λ v. refl; hook = refl; open_ = λ o. refl; begun = λ m n. refl }
 
-open_held : (l : List ℕ) (kind : Kind) (place : Place) (r : Rectangle) (framed : Bool) (classes : ℕ) (title : List ℕ) → is_super kind ≡ false → classes < 32 → place_and_size_fit r ≡ true → IsHeldCall (l ∷ []) (OpenAct (new_without_bitmap kind place r false None) framed false classes title)
+open_held : (l : List ℕ) (kind : Kind) (place : Place) (r : Four) (framed : Bool) (classes : ℕ) (title : List ℕ) → is_super kind ≡ false → classes < 32 → place_and_size_fit r ≡ true → IsHeldCall (l ∷ []) (OpenAct (new_without_bitmap kind place r false None) framed false classes title)
 open_held l Simple place r framed classes title k c h =
     record { long = refl; made = ((refl, refl), and_right framed false refl, c); range = and_from _ _ h refl; all = refl; named = λ names. refl; known = λ v. refl; hook = refl; open_ = λ o. refl; begun = λ m n. refl }
 open_held l Smart place r framed classes title k c h =

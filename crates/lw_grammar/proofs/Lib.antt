@@ -9,3 +9,4 @@ pub mod GzzLines
 pub mod ScriptOutcome
 pub mod ScriptTasks
 pub mod ScriptRunnable
+pub mod OrderFew

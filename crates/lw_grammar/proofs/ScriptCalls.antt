@@ -15,7 +15,7 @@ use Rattle.lw_grammar.specs.declared.verb.PairVerb.{PairVerb}
 use Rattle.lw_grammar.specs.declared.verb.PairVerb.TheVariants.{Move as MoveVerb}
 use Rattle.lw_grammar.specs.declared.verb.TextVerb.{TextVerb}
 use Rattle.lw_grammar.specs.declared.verb.TextVerb.TheVariants.{Text as TextOf}
-use Rattle.lw_grammar.specs.Statements.{NewLayer, Act, BareAct, NumberAct, PairAct, TextAct, RegRectAct, RegPairAct, RegClearAct, CreateAct, OpenAct, InFrontAct, BoxAct, WhichAct, FillAct, ScrollRasterAct, PutAct, BlitAct, EndRefreshAct, CallLine, is_hook_number, is_own_size, is_new_layer_in_range, place_and_size_fit, is_act_in_range, layers_of}
+use Rattle.lw_grammar.specs.Statements.{NewLayer, Act, BareAct, NumberAct, PairAct, TextAct, RegRectAct, RegPairAct, RegClearAct, CreateAct, OpenAct, InFrontAct, BoxAct, WhichAct, FillAct, ScrollRasterAct, PutAct, BlitAct, EndRefreshAct, CallLine, is_hook_number, is_own_size, is_new_layer_in_range, place_and_size_fit, is_act_in_range, layers_of, bounds}
 use Rattle.lw_grammar.specs.Told.{place_among, make_of, created_make, opened_make, bare_call, pair_call, text_call, spelled_call, hook_on}
 use Rattle.lw_grammar.specs.Script.{lacks_name, is_no_hook}
 use Rattle.lw_grammar.specs.GoodLines.{is_known_act, IsNewLayerOf, IsActMade}
@@ -73,20 +73,20 @@ make_made z a x y w h m r k cx cy sw sh =
     and_from _ _ (and_from _ _ (and_from _ _ cx cy) (and_from _ _ sw sh)) (and_from _ _ (new_hook_fits z.hooks a.hook k) (new_kind_fits a.kind a m own.1))
 
 -- of a creation, and of an opening
-created_fits : (z : Sizes) (a : NewLayer) → IsNewLayerOf a.kind a → (rect_fits a.numbers && is_new_layer_in_range a) ≡ true → is_no_hook z.hooks a.hook ≡ false → make_fits z (created_make a) ≡ true
+created_fits : (z : Sizes) (a : NewLayer) → IsNewLayerOf a.kind a → (rect_fits (bounds a.numbers) && is_new_layer_in_range a) ≡ true → is_no_hook z.hooks a.hook ≡ false → make_fits z (created_make a) ≡ true
 created_fits z a m r k =
-    let parts = and_parts (rect_fits a.numbers) (is_new_layer_in_range a) r in
-    let axes = and_parts (axis_fits a.numbers.min_x a.numbers.max_x) (axis_fits a.numbers.min_y a.numbers.max_y) parts.0 in
-    let x = span_fits a.numbers.min_x a.numbers.max_x axes.0 in
-    let y = span_fits a.numbers.min_y a.numbers.max_y axes.1 in
+    let parts = and_parts (rect_fits (bounds a.numbers)) (is_new_layer_in_range a) r in
+    let axes = and_parts (axis_fits a.numbers.first a.numbers.third) (axis_fits a.numbers.second a.numbers.fourth) parts.0 in
+    let x = span_fits a.numbers.first a.numbers.third axes.0 in
+    let y = span_fits a.numbers.second a.numbers.fourth axes.1 in
     make_made z a _ _ _ _ m parts.1 k x.0 y.0 x.1 y.1
 
 opened_fits : (z : Sizes) (a : NewLayer) → IsNewLayerOf a.kind a → (place_and_size_fit a.numbers && is_new_layer_in_range a) ≡ true → is_no_hook z.hooks a.hook ≡ false → make_fits z (opened_make a) ≡ true
 opened_fits z a m r k =
     let parts = and_parts (place_and_size_fit a.numbers) (is_new_layer_in_range a) r in
-    let halves = and_parts (is_coordinate a.numbers.min_x && is_coordinate a.numbers.min_y) _ parts.0 in
-    let place = and_parts (is_coordinate a.numbers.min_x) _ halves.0 in
-    let size = and_parts (is_extent a.numbers.max_x) _ halves.1 in
+    let halves = and_parts (is_coordinate a.numbers.first && is_coordinate a.numbers.second) _ parts.0 in
+    let place = and_parts (is_coordinate a.numbers.first) _ halves.0 in
+    let size = and_parts (is_extent a.numbers.third) _ halves.1 in
     make_made z a _ _ _ _ m parts.1 k place.0 place.1 (extent_fits _ size.0) (extent_fits _ size.1)
 
 -- a window that is asked for

@@ -1,7 +1,6 @@
 -- What the words of a line that has a statement were good for: where the line stands, and how the statement is made.
 use Rattle.std.proofs.Common.{◌≡◌, ℕ, suc, ◌+◌, ◌*◌, ◌%◌, ◌^◌, ◌<◌, ◌≤◌, ◌==◌, Bool, true, false, not, cond, ◌&&◌, nat_le, List, [], ◌∷◌, length, map, drop, codes, bytes_eq, Option, Some, None, option_map, option_and_then, ok_or, IfSome, refl, sym, ap, subst, ◌∙◌, arith, pow_mono, pow-suc, add-one}
 use Rattle.std.specs.Result.{IfOk}
-use Rattle.lw_region.specs.Rectangle.{Rectangle}
 use Rattle.lw_planes.specs.Bitmap.{row_bytes}
 use Rattle.lw_calls.specs.declared.operation.RectOp.{RectOp}
 use Rattle.lw_calls.specs.declared.operation.PairOp.{PairOp}
@@ -24,7 +23,8 @@ use Rattle.lw_grammar.specs.declared.verb.Verb.TheVariants.{Part, Bare, Number, 
 use Rattle.lw_calls.specs.Limits.{is_minterm}
 use Rattle.lw_calls.specs.Kinds.{is_super}
 use Rattle.lw_grammar.specs.Tokens.{Token, NameToken, NumberToken, TextToken, OddToken, is_a_text, is_a_name, is_a_number, without_last, value_of_number, token_of, is_hex, hex_value, hex_bytes, spelled_bytes, bytes_in}
-use Rattle.lw_grammar.specs.Statements.{layers_of, NewLayer, Act, BareAct, NumberAct, PairAct, TextAct, RegRectAct, RegPairAct, RegClearAct, OpenAct, InFrontAct, BoxAct, WhichAct, FillAct, ScrollRasterAct, PutAct, BlitAct, EndRefreshAct, Statement, LayersLine, ScreenLine, GlyphLine, BitmapLine, RowLine, PatternLine, TaskLine, EndLine, OrderLine, NumbersLine, ReportLine, CallLine, LockLine, UnlockLine, HoldLine, ReleaseLine, Line, StatementLine, AreaLine, four, layers_line, screen_line, glyph_of_bytes, glyph_line, bitmap_line, row_line, pattern_words, is_pattern_count, pattern_line, all_numbers, numbers_limit, numbers_line, name_line, alone_line, part_line, layer_line, number_line, pair_line, text_line, rect_line, region_line, clear_line, which_line, infront_line, last_four, four_line, scrollraster_line, minterm_of, blit_end, blit_area, put_line, blit_line, endrefresh_line, kind_of, place_of, flag, hook_option, message_class_of, classes_from, asked_classes, ask_option, at_end, create_super, create_kind, titled_line, open_super, open_kind, new_layer_line, area_points, area_line, area_pattern_line, statement_by, line_by, GzzAct, OpenGzz, BoxGzz, FrontGzz, BehindGzz, InFrontGzz, CloseGzz, GzzLine, inner_kind_of, titled_gzz, opened_gzz, gopen_line, gbox_line, gzz_alone, ginfront_line, gzz_line}
+use Rattle.lw_area.specs.Patterns.{is_pattern_count}
+use Rattle.lw_grammar.specs.Statements.{layers_of, NewLayer, Act, BareAct, NumberAct, PairAct, TextAct, RegRectAct, RegPairAct, RegClearAct, OpenAct, InFrontAct, BoxAct, WhichAct, FillAct, ScrollRasterAct, PutAct, BlitAct, EndRefreshAct, Statement, LayersLine, ScreenLine, GlyphLine, BitmapLine, RowLine, PatternLine, TaskLine, EndLine, OrderLine, NumbersLine, ReportLine, CallLine, LockLine, UnlockLine, HoldLine, ReleaseLine, Line, StatementLine, AreaLine, four, layers_line, screen_line, glyph_of_bytes, glyph_line, bitmap_line, row_line, pattern_words, pattern_line, all_numbers, numbers_limit, numbers_line, name_line, alone_line, part_line, layer_line, number_line, pair_line, text_line, rect_line, region_line, clear_line, which_line, infront_line, last_four, four_line, scrollraster_line, minterm_of, blit_end, blit_area, put_line, blit_line, endrefresh_line, kind_of, place_of, flag, hook_option, message_class_of, classes_from, asked_classes, ask_option, at_end, create_super, create_kind, titled_line, open_super, open_kind, new_layer_line, area_points, area_line, area_pattern_line, statement_by, line_by, GzzAct, OpenGzz, BoxGzz, FrontGzz, BehindGzz, InFrontGzz, CloseGzz, GzzLine, inner_kind_of, titled_gzz, opened_gzz, gopen_line, gbox_line, gzz_alone, ginfront_line, gzz_line, Four, bounds}
 use Rattle.lw_grammar.specs.Told.{Section, told}
 use Rattle.lw_grammar.specs.Script.{Setting, is_screen_due, are_assets_due, are_calls_due, are_numbers_due, is_known_in, belongs_in, verb_on, after_verb, verb_read, stated, line_made}
 use Rattle.lw_grammar.specs.GoodLines.{belongs_at, is_known_act, is_known_line, IsNewLayerOf, IsActMade, IsStatementMade, AreBytes, IsStatementHere}
@@ -136,7 +136,7 @@ minterm_made (Some (m ∷ n ∷ ms)) h = tt
 -- what ends a blit's line has one
 end_minterm : (ts : List Token) → IfSome (blit_end ts) (λ end. is_minterm end.1 ≡ true)
 end_minterm (NumberToken a x ∷ NumberToken b y ∷ NumberToken c w ∷ NumberToken d h ∷ mm ∷ []) =
-    map_has (λ m. is_minterm m ≡ true) (λ (end : Rectangle × ℕ). is_minterm end.1 ≡ true) _ (minterm_of (bytes_in 1 mm)) (minterm_made (bytes_in 1 mm) (token_spelled 1 mm)) (λ m k. k)
+    map_has (λ m. is_minterm m ≡ true) (λ (end : Four × ℕ). is_minterm end.1 ≡ true) _ (minterm_of (bytes_in 1 mm)) (minterm_made (bytes_in 1 mm) (token_spelled 1 mm)) (λ m k. k)
 end_minterm _ = tt
 
 -- the least power that a class from this one on adds
@@ -271,7 +271,7 @@ module _ (form : Form) (version : ℕ) (s : Section) where
   text_made verb _ = tt
 
   -- a verb with a layer and four numbers
-  four_made : (act : Rectangle → Act) → ((r : Rectangle) → is_known_act version (act r) ≡ true) → ((r : Rectangle) → 1 ≡ layers_of (act r)) → ((r : Rectangle) → IsActMade (act r)) → (ts : List Token) → IfSome (four_line act ts) (IsVerbStatement form version s (are_calls_due s))
+  four_made : (act : Four → Act) → ((r : Four) → is_known_act version (act r) ≡ true) → ((r : Four) → 1 ≡ layers_of (act r)) → ((r : Four) → IsActMade (act r)) → (ts : List Token) → IfSome (four_line act ts) (IsVerbStatement form version s (are_calls_due s))
   four_made act k n h (NameToken l ∷ NumberToken a x ∷ NumberToken b y ∷ NumberToken c w ∷ NumberToken d z ∷ []) =
       let r = four x y w z in
       let P : Bool → Type 0 = λ known. IsVerbStatement form version s (known && are_calls_due s) (CallLine (l ∷ []) (act r)) in
@@ -281,7 +281,7 @@ module _ (form : Form) (version : ℕ) (s : Section) where
   -- orrect R X0 Y0 X1 Y1, and its kin
   rect_made : (op : RectOp) (ts : List Token) → IfSome (rect_line op ts) (IsVerbStatement form version s (are_calls_due s))
   rect_made op (NumberToken a r ∷ NumberToken b x0 ∷ NumberToken c y0 ∷ NumberToken d x1 ∷ NumberToken e y1 ∷ []) =
-      call_so form version s [] (RegRectAct op r (four x0 y0 x1 y1)) refl tt
+      call_so form version s [] (RegRectAct op r (bounds (four x0 y0 x1 y1))) refl tt
   rect_made op _ = tt
 
   -- orregion S R, and its kin
@@ -307,7 +307,7 @@ module _ (form : Form) (version : ℕ) (s : Section) where
   -- scrollraster L DX DY X0 Y0 X1 Y1
   scrollraster_made : (ts : List Token) → IfSome (scrollraster_line ts) (IsVerbStatement form version s (are_calls_due s))
   scrollraster_made (NameToken l ∷ NumberToken a dx ∷ NumberToken b dy ∷ NumberToken c x0 ∷ NumberToken d y0 ∷ NumberToken e x1 ∷ NumberToken f y1 ∷ []) =
-      call_so form version s (l ∷ []) (ScrollRasterAct dx dy (four x0 y0 x1 y1)) refl tt
+      call_so form version s (l ∷ []) (ScrollRasterAct dx dy (bounds (four x0 y0 x1 y1))) refl tt
   scrollraster_made _ = tt
 
   -- put BM SX SY L X Y W H MM
@@ -334,11 +334,11 @@ module _ (form : Form) (version : ℕ) (s : Section) where
   end_made f h (t ∷ ts) = tt
 
   -- what stands after a creation's four numbers
-  create_super_made : (l : List ℕ) (place : Place) (numbers : Rectangle) (ts : List Token) → IfSome (create_super l place numbers ts) (IsVerbStatement form version s (are_calls_due s))
+  create_super_made : (l : List ℕ) (place : Place) (numbers : Four) (ts : List Token) → IfSome (create_super l place numbers ts) (IsVerbStatement form version s (are_calls_due s))
   create_super_made l place numbers (NumberToken a w ∷ NumberToken b h ∷ ts) = end_made _ (call_so form version s (l ∷ []) _ refl refl) _
   create_super_made l place numbers _ = tt
 
-  create_made : (l : List ℕ) (place : Place) (numbers : Rectangle) (ts : List Token) (kind : Kind) → IfSome (create_kind l place numbers ts kind) (IsVerbStatement form version s (are_calls_due s))
+  create_made : (l : List ℕ) (place : Place) (numbers : Four) (ts : List Token) (kind : Kind) → IfSome (create_kind l place numbers ts kind) (IsVerbStatement form version s (are_calls_due s))
   create_made l place numbers ts Simple = end_made _ (call_so form version s (l ∷ []) _ refl (refl, refl)) _
   create_made l place numbers ts Smart = end_made _ (call_so form version s (l ∷ []) _ refl (refl, refl)) _
   create_made l place numbers ts SuperBitmap = create_super_made l place numbers ts
@@ -350,17 +350,17 @@ module _ (form : Form) (version : ℕ) (s : Section) where
   titled_made l layer framed nocare classes a f c _ = tt
 
   -- what stands after an opening's four numbers
-  open_super_made : (l : List ℕ) (place : Place) (numbers : Rectangle) (ts : List Token) → IfSome (open_super l place numbers ts) (IsVerbStatement form version s (are_calls_due s))
+  open_super_made : (l : List ℕ) (place : Place) (numbers : Four) (ts : List Token) → IfSome (open_super l place numbers ts) (IsVerbStatement form version s (are_calls_due s))
   open_super_made l place numbers (NumberToken a w ∷ NumberToken b h ∷ ts) = titled_made l _ false false _ refl refl (ask_small ((flag (codes "backdrop") ts).1)) _
   open_super_made l place numbers _ = tt
 
-  open_made : (l : List ℕ) (place : Place) (numbers : Rectangle) (ts : List Token) (kind : Kind) → IfSome (open_kind l place numbers ts kind) (IsVerbStatement form version s (are_calls_due s))
+  open_made : (l : List ℕ) (place : Place) (numbers : Four) (ts : List Token) (kind : Kind) → IfSome (open_kind l place numbers ts kind) (IsVerbStatement form version s (are_calls_due s))
   open_made l place numbers ts Simple = titled_made l _ _ _ _ (refl, refl) (and_right _ false refl) (ask_small (behind_hook ts)) _
   open_made l place numbers ts Smart = titled_made l _ _ _ _ (refl, refl) (and_right _ false refl) (ask_small (behind_hook ts)) _
   open_made l place numbers ts SuperBitmap = open_super_made l place numbers ts
 
   -- create L KIND PLACE X0 Y0 X1 Y1 .., and open L KIND PLACE X Y W H ..
-  new_layer_made : (behind : List ℕ → Place → Rectangle → List Token → Kind → Option Statement) → ((l : List ℕ) (place : Place) (numbers : Rectangle) (ts : List Token) (kind : Kind) → IfSome (behind l place numbers ts kind) (IsVerbStatement form version s (are_calls_due s))) → (ts : List Token) → IfSome (new_layer_line behind ts) (IsVerbStatement form version s (are_calls_due s))
+  new_layer_made : (behind : List ℕ → Place → Four → List Token → Kind → Option Statement) → ((l : List ℕ) (place : Place) (numbers : Four) (ts : List Token) (kind : Kind) → IfSome (behind l place numbers ts kind) (IsVerbStatement form version s (are_calls_due s))) → (ts : List Token) → IfSome (new_layer_line behind ts) (IsVerbStatement form version s (are_calls_due s))
   new_layer_made behind made (NameToken l ∷ NameToken k ∷ NameToken p ∷ NumberToken a x ∷ NumberToken b y ∷ NumberToken c z ∷ NumberToken d w ∷ ts) =
       then_has (IsVerbStatement form version s (are_calls_due s)) _ (place_of p) (λ place. then_has (IsVerbStatement form version s (are_calls_due s)) _ (kind_of k) (λ kind. made l place (four x y z w) ts kind))
   new_layer_made behind made _ = tt
@@ -380,7 +380,7 @@ verb_made form version s Open ts = new_layer_made form version s open_kind (open
 verb_made form version s InFront ts = infront_made form version s ts
 verb_made form version s Box ts = four_made form version s (λ r. BoxAct r) (λ r. refl) (λ r. refl) (λ r. tt) ts
 verb_made form version s Which ts = which_made form version s ts
-verb_made form version s Fill ts = four_made form version s (λ r. FillAct r) (λ r. refl) (λ r. refl) (λ r. tt) ts
+verb_made form version s Fill ts = four_made form version s (λ n. FillAct (bounds n)) (λ r. refl) (λ r. refl) (λ r. tt) ts
 verb_made form version s ScrollRaster ts = scrollraster_made form version s ts
 verb_made form version s Put ts = put_made form version s ts
 verb_made form version s Blit ts = blit_made form version s ts
@@ -471,11 +471,11 @@ module _ (s : Setting) (above : List Statement) (rows : ((told above).rows_due =
   gzz_so g act h = record { rows = rows; calls = calls; version = version; made = h }
 
   -- gopen G I KIND PLACE X Y W H ..
-  titled_gzz_here : (g i : List ℕ) (kind : Kind) (place : Place) (box : Rectangle) (classes : ℕ) → is_super kind ≡ false → classes < 32 → (ts : List Token) → IfSome (titled_gzz g i kind place box classes ts) (IsLineHere s above)
+  titled_gzz_here : (g i : List ℕ) (kind : Kind) (place : Place) (box : Four) (classes : ℕ) → is_super kind ≡ false → classes < 32 → (ts : List Token) → IfSome (titled_gzz g i kind place box classes ts) (IsLineHere s above)
   titled_gzz_here g i kind place box classes k c (TextToken title ∷ []) = gzz_so g (OpenGzz i kind place box classes title) (k, c)
   titled_gzz_here g i kind place box classes k c _ = tt
 
-  opened_gzz_here : (g i : List ℕ) (place : Place) (box : Rectangle) (ts : List Token) (kind : Kind) → is_super kind ≡ false → IfSome (opened_gzz g i place box ts kind) (IsLineHere s above)
+  opened_gzz_here : (g i : List ℕ) (place : Place) (box : Four) (ts : List Token) (kind : Kind) → is_super kind ≡ false → IfSome (opened_gzz g i place box ts kind) (IsLineHere s above)
   opened_gzz_here g i place box ts kind k = titled_gzz_here g i kind place box _ k (ask_small ts) _
 
   inner_kind_here : (w : List ℕ) (f : Kind → Option Line) → ((kind : Kind) → is_super kind ≡ false → IfSome (f kind) (IsLineHere s above)) → IfSome (option_and_then f (inner_kind_of w)) (IsLineHere s above)

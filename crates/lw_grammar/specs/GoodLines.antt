@@ -1,36 +1,31 @@
 -- What is known of a line's statement where the line was good: where it stands, how it is made, and that it passes its tests.
-use Rattle.std.specs.Prelude.{◌≡◌, ℕ, ◌<◌, ◌≤◌, ◌==◌, Bool, true, false, ◌&&◌, ◌||◌, List, [], ◌∷◌, length, pos, None, Ok}
+use Rattle.std.specs.Prelude.{◌≡◌, ℕ, ◌<◌, ◌≤◌, ◌==◌, Bool, true, false, ◌&&◌, List, [], ◌∷◌, length, pos, None, Ok}
 use Rattle.lw_planes.specs.Bitmap.{row_bytes}
 use Rattle.lw_calls.specs.declared.make.Kind.{Kind}
 use Rattle.lw_calls.specs.declared.make.Kind.TheVariants.{Simple, Smart, SuperBitmap}
 use Rattle.lw_calls.specs.Limits.{is_minterm}
 use Rattle.lw_calls.specs.Kinds.{is_super}
 use Rattle.lw_grammar.specs.declared.form.Form.{Form}
-use Rattle.lw_grammar.specs.declared.verb.Verb.TheVariants.{Number}
-use Rattle.lw_grammar.specs.Statements.{NewLayer, Act, NumberAct, CreateAct, OpenAct, PutAct, BlitAct, layers_of, numbers_limit, Statement, LayersLine, ScreenLine, GlyphLine, BitmapLine, RowLine, PatternLine, TaskLine, EndLine, OrderLine, NumbersLine, ReportLine, CallLine, LockLine, UnlockLine, HoldLine, ReleaseLine, NameSeen, PairMade}
+use Rattle.lw_grammar.specs.declared.verb.Verb.TheVariants.{Part, Number}
+use Rattle.lw_grammar.specs.declared.verb.PartVerb.TheVariants.{Layers as LayersVerb, Screen as ScreenVerb, Glyph as GlyphVerb, Bitmap as BitmapVerb, Pattern as PatternVerb, Task as TaskVerb, Order as OrderVerb, Report as ReportVerb}
+use Rattle.lw_grammar.specs.Statements.{NewLayer, Act, NumberAct, CreateAct, OpenAct, PutAct, BlitAct, layers_of, numbers_limit, Statement, LayersLine, ScreenLine, GlyphLine, BitmapLine, RowLine, PatternLine, TaskLine, OrderLine, NumbersLine, ReportLine, CallLine}
 use Rattle.lw_grammar.specs.Told.{Section, told}
-use Rattle.lw_grammar.specs.Script.{Setting, is_screen_due, are_assets_due, are_calls_due, are_tasks_due, are_numbers_due, is_ordered, is_audited, is_known_in, statement_tested}
+use Rattle.lw_grammar.specs.Script.{Setting, are_calls_due, are_numbers_due, is_known_in, belongs_in, statement_tested}
 
--- A line with this statement, which begins with a verb, belongs in this version and section of this input.
+-- A line with this statement, which begins with a verb, belongs in this version and section of this input, as its verb does. One
+-- for which no line stands alone belongs where calls do.
 abbrev pub belongs_at : Form → ℕ → Section → Statement → Bool
-belongs_at form version s LayersLine = is_screen_due s && (version == 0)
-belongs_at form version s (ScreenLine w h d) = is_screen_due s
-belongs_at form version s (GlyphLine code rows) = are_assets_due s
-belongs_at form version s (BitmapLine name w h d) = are_assets_due s
+belongs_at form version s LayersLine = belongs_in form version s (Part LayersVerb)
+belongs_at form version s (ScreenLine w h d) = belongs_in form version s (Part ScreenVerb)
+belongs_at form version s (GlyphLine code rows) = belongs_in form version s (Part GlyphVerb)
+belongs_at form version s (BitmapLine name w h d) = belongs_in form version s (Part BitmapVerb)
 belongs_at form version s (RowLine bytes) = false
-belongs_at form version s (PatternLine name words) = are_assets_due s
-belongs_at form version s (TaskLine name) = are_assets_due s || are_tasks_due s
-belongs_at form version s EndLine = are_calls_due s
-belongs_at form version s OrderLine = are_tasks_due s && is_ordered form
+belongs_at form version s (PatternLine name words) = belongs_in form version s (Part PatternVerb)
+belongs_at form version s (TaskLine name) = belongs_in form version s (Part TaskVerb)
+belongs_at form version s OrderLine = belongs_in form version s (Part OrderVerb)
 belongs_at form version s (NumbersLine zs) = false
-belongs_at form version s ReportLine = are_tasks_due s && is_audited form
-belongs_at form version s (CallLine layers act) = are_calls_due s
-belongs_at form version s (LockLine name) = are_calls_due s
-belongs_at form version s (UnlockLine name) = are_calls_due s
-belongs_at form version s HoldLine = are_calls_due s
-belongs_at form version s ReleaseLine = are_calls_due s
-belongs_at form version s (NameSeen name) = are_calls_due s
-belongs_at form version s (PairMade outer inner) = are_calls_due s
+belongs_at form version s ReportLine = belongs_in form version s (Part ReportVerb)
+belongs_at form version s f = are_calls_due s
 
 -- Some line has this act, or this statement, where the lines above tell this version.
 abbrev pub is_known_act : ℕ → Act → Bool

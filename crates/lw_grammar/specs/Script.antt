@@ -14,18 +14,17 @@ use Rattle.lw_grammar.specs.declared.verb.Verb.{Verb}
 use Rattle.lw_grammar.specs.declared.verb.Verb.TheVariants.{Part, Number, Area as AreaVerb, AreaPattern as AreaPatternVerb, Gzz}
 use Rattle.lw_grammar.specs.declared.verb.PartVerb.TheVariants.{Layers as LayersVerb, Screen as ScreenVerb, Glyph as GlyphVerb, Bitmap as BitmapVerb, Pattern as PatternVerb, Task as TaskVerb, Order as OrderVerb, Report as ReportVerb}
 use Rattle.lw_grammar.specs.declared.verb.NumberVerb.TheVariants.{Hook as HookVerb}
-use Rattle.lw_grammar.specs.declared.verb.BareVerb.TheVariants.{Close as CloseVerb, Front as FrontVerb, Behind as BehindVerb, Activate as ActivateVerb}
+use Rattle.lw_grammar.specs.declared.verb.BareVerb.TheVariants.{Close as CloseVerb, Front as FrontVerb, Behind as BehindVerb, Activate as ActivateVerb, Refresh as RefreshVerb}
 use Rattle.lw_grammar.specs.declared.verb.PairVerb.TheVariants.{Move as MoveVerb, Size as SizeVerb}
 use Rattle.lw_calls.specs.declared.limits.Limits.{Limits}
 use Rattle.lw_calls.specs.Limits.{limits_of, may_replace_hooks, task_limit, bitmap_limit}
-use Rattle.lw_calls.specs.Touches.{slots_of}
-use Rattle.lw_calls.specs.Plan.{Plan, IsPlan, is_all, begins_update, ends_update}
+use Rattle.lw_calls.specs.Plan.{Plan, IsPlan}
 use Rattle.lw_grammar.specs.Lines.{lines}
 use Rattle.lw_grammar.specs.Demands.{◌>>=◌, demand}
 use Rattle.lw_grammar.specs.Tokens.{tokens, token_of}
 use Rattle.lw_grammar.specs.Verbs.{verb_of}
-use Rattle.lw_grammar.specs.Statements.{Act, BareAct, PairAct, CreateAct, OpenAct, InFrontAct, BoxAct, PutAct, GzzAct, OpenGzz, InFrontGzz, Statement, GlyphLine, BitmapLine, RowLine, PatternLine, TaskLine, EndLine, CallLine, LockLine, UnlockLine, HoldLine, ReleaseLine, Line, StatementLine, AreaLine, GzzLine, row_line, numbers_line, line_by, is_line_in_range, is_gzz_in_range}
-use Rattle.lw_grammar.specs.Told.{Section, ScreenIsDue, AssetsAreDue, CallsAreDue, TasksAreDue, NumbersAreDue, NothingIsDue, OpenGroup, Locked, Updating, Held, NamedPair, Told, spelled_call, hook_on, told_with, told, stands_for, told_all, plan_of}
+use Rattle.lw_grammar.specs.Statements.{Act, BareAct, NumberAct, PairAct, CreateAct, OpenAct, InFrontAct, BoxAct, PutAct, EndRefreshAct, GzzAct, OpenGzz, InFrontGzz, Statement, GlyphLine, BitmapLine, RowLine, PatternLine, TaskLine, EndLine, CallLine, LockLine, UnlockLine, HoldLine, ReleaseLine, Line, StatementLine, AreaLine, GzzLine, row_line, numbers_line, line_by, is_line_in_range, is_gzz_in_range}
+use Rattle.lw_grammar.specs.Told.{Section, ScreenIsDue, AssetsAreDue, CallsAreDue, TasksAreDue, NumbersAreDue, NothingIsDue, OpenGroup, Locked, Updating, Held, NamedPair, Told, hook_on, told_with, told, stands_for, told_all, plan_of}
 
 -- What a script is read with: how many hooks are handed in, and what input it stands in.
 pub record Setting : Type 0 where
@@ -190,16 +189,24 @@ abbrev pub comes_between : List NamedPair → GzzAct → Bool
 comes_between pairs (InFrontGzz m) = is_outer pairs m
 comes_between pairs act = false
 
--- What the call of an act is, whichever layers and bitmaps it names: one that touches all layers; one that begins an update;
--- one that ends an update.
+-- the call of the act gives a layer another hook
+abbrev pub is_hooking : Act → Bool
+is_hooking (NumberAct HookVerb z) = true
+is_hooking act = false
+
+-- the call of the act is on all layers: it arranges, makes a layer active, or gives one another hook
 abbrev pub is_on_all : Act → Bool
-is_on_all act = is_all (slots_of (spelled_call [] act []))
+is_on_all act = is_arranging act || (is_activating act || is_hooking act)
 
+-- it begins an update
 abbrev pub is_beginning : Act → Bool
-is_beginning act = begins_update (spelled_call [] act [])
+is_beginning (BareAct RefreshVerb) = true
+is_beginning act = false
 
+-- it ends an update
 abbrev pub is_ending : Act → Bool
-is_ending act = ends_update (spelled_call [] act [])
+is_ending (EndRefreshAct full) = true
+is_ending act = false
 
 -- there is a layer among these, and each is this one
 abbrev pub are_all : List ℕ → List (List ℕ) → Bool

@@ -1,8 +1,10 @@
 -- The statements of a script's lines.
-use Rattle.std.specs.Prelude.{ℕ, ◌+◌, ◌*◌, ◌%◌, ◌^◌, ◌==◌, Bool, true, false, not, ◌&&◌, ◌||◌, nat_le, if◌then◌else◌, List, [], ◌∷◌, length, ℤ, pos, Option, Some, None, option_map, option_and_then, codes, bytes_eq, ◌+ℤ◌, ◌-ℤ◌}
+use Rattle.std.specs.Prelude.{ℕ, ◌+◌, ◌*◌, ◌%◌, ◌^◌, ◌==◌, Bool, true, false, not, ◌&&◌, nat_le, if◌then◌else◌, List, [], ◌∷◌, length, ℤ, pos, Option, Some, None, option_map, option_and_then, codes, bytes_eq, ◌+ℤ◌, ◌-ℤ◌}
 use Rattle.std.specs.List.{list_all}
 use Rattle.lw_region.specs.Rectangle.{Rectangle, within}
 use Rattle.lw_area.specs.declared.point.Point.{Point}
+use Rattle.lw_area.specs.Patterns.{is_pattern_count}
+use Rattle.lw_area.specs.Polygons.{is_point_count}
 use Rattle.lw_planes.specs.Bitmap.{row_bytes}
 use Rattle.lw_calls.specs.declared.operation.RectOp.{RectOp}
 use Rattle.lw_calls.specs.declared.operation.PairOp.{PairOp}
@@ -25,20 +27,26 @@ use Rattle.lw_grammar.specs.declared.verb.Verb.TheVariants.{Part, Bare, Number, 
 use Rattle.lw_calls.specs.Limits.{limits_of, rect_fits, coordinates_fit, is_extent}
 use Rattle.lw_grammar.specs.Tokens.{Token, NameToken, NumberToken, TextToken, bytes_in}
 
+-- Four numbers of a line in their order: X0 Y0 X1 Y1, the bounds of a rectangle; or X Y W H, a place, a width and a height.
+pub record Four : Type 0 where
+  pub first : ℤ
+  pub second : ℤ
+  pub third : ℤ
+  pub fourth : ℤ
+
 -- A layer as a line asks for it: its kind and place, its four numbers (the bounds of a creation, or the place and size of an
 -- opening), whether it is a backdrop layer, its hook, and the size of a bitmap of its own, or 0 and 0. All numbers are the
 -- line's own, in their ranges or not; the call has a `Make` of them, with a corner and a size in any case.
 pub record NewLayer : Type 0 where
   pub kind : Kind
   pub place : Place
-  pub numbers : Rectangle
+  pub numbers : Four
   pub backdrop : Bool
   pub hook : Option ℤ
   pub bits_w : ℤ
   pub bits_h : ℤ
 
--- What the line of a call asks for, without the layers that it names. The four numbers of a box are a place, a width and a
--- height.
+-- What the line of a call asks for, without the layers that it names.
 pub data Act : Type 0 where
   BareAct : BareVerb → Act
   NumberAct : NumberVerb → ℤ → Act
@@ -50,7 +58,7 @@ pub data Act : Type 0 where
   CreateAct : NewLayer → Act
   OpenAct : NewLayer → Bool → Bool → ℕ → List ℕ → Act
   InFrontAct : Act
-  BoxAct : Rectangle → Act
+  BoxAct : Four → Act
   WhichAct : ℤ → ℤ → Act
   FillAct : Rectangle → Act
   ScrollRasterAct : ℤ → ℤ → Rectangle → Act
@@ -97,8 +105,8 @@ pub data Statement : Type 0 where
 -- box, classes of messages and a title; it gives it a box; it puts it in front of all others, behind them, or in front of a
 -- layer; it closes it. A box is a place, a width and a height.
 pub data GzzAct : Type 0 where
-  OpenGzz : List ℕ → Kind → Place → Rectangle → ℕ → List ℕ → GzzAct
-  BoxGzz : Rectangle → GzzAct
+  OpenGzz : List ℕ → Kind → Place → Four → ℕ → List ℕ → GzzAct
+  BoxGzz : Four → GzzAct
   FrontGzz : GzzAct
   BehindGzz : GzzAct
   InFrontGzz : List ℕ → GzzAct
@@ -111,17 +119,20 @@ pub data Line : Type 0 where
   AreaLine : List ℕ → Option (List ℕ) → List Point → Line
   GzzLine : List ℕ → GzzAct → Line
 
--- Four numbers of a line: the bounds of a rectangle; or a place, a width as `max_x` and a height as `max_y`.
-abbrev pub four : ℤ → ℤ → ℤ → ℤ → Rectangle
-four a b c d = record { min_x = a; min_y = b; max_x = c; max_y = d }
+abbrev pub four : ℤ → ℤ → ℤ → ℤ → Four
+four a b c d = record { first = a; second = b; third = c; fourth = d }
+
+-- the rectangle with these four bounds
+abbrev pub bounds : Four → Rectangle
+bounds n = record { min_x = n.first; min_y = n.second; max_x = n.third; max_y = n.fourth }
 
 -- four numbers, and what stands after them
-abbrev pub four_numbers : List Token → Option (Rectangle × List Token)
+abbrev pub four_numbers : List Token → Option (Four × List Token)
 four_numbers (NumberToken a x ∷ NumberToken b y ∷ NumberToken c z ∷ NumberToken d w ∷ ts) = Some (four x y z w, ts)
 four_numbers _ = None
 
 -- four numbers at the end of a line
-abbrev pub last_four : List Token → Option Rectangle
+abbrev pub last_four : List Token → Option Four
 last_four (NumberToken a x ∷ NumberToken b y ∷ NumberToken c z ∷ NumberToken d w ∷ []) = Some (four x y z w)
 last_four _ = None
 
@@ -165,10 +176,6 @@ abbrev pub pattern_words : List Token → Option (List ℕ)
 pattern_words [] = Some []
 pattern_words (t ∷ ts) =
     option_and_then (λ w. option_map (λ ws. w ∷ ws) (pattern_words ts)) (pattern_word (bytes_in 2 t))
-
--- so many words make a pattern
-abbrev pub is_pattern_count : ℕ → Bool
-is_pattern_count n = (n == 1) || ((n == 2) || ((n == 4) || ((n == 8) || (n == 16))))
 
 -- pattern PN HHHH ..
 abbrev pub pattern_line : List Token → Option Statement
@@ -238,7 +245,7 @@ text_line verb _ = None
 
 -- orrect R X0 Y0 X1 Y1, and its kin
 abbrev pub rect_line : RectOp → List Token → Option Statement
-rect_line op (NumberToken a r ∷ ts) = option_map (λ rect. CallLine [] (RegRectAct op r rect)) (last_four ts)
+rect_line op (NumberToken a r ∷ ts) = option_map (λ n. CallLine [] (RegRectAct op r (bounds n))) (last_four ts)
 rect_line op _ = None
 
 -- orregion S R, and its kin
@@ -262,14 +269,14 @@ infront_line (NameToken l ∷ NameToken m ∷ []) = Some (CallLine (l ∷ m ∷ 
 infront_line _ = None
 
 -- box L X Y W H, and fill L X0 Y0 X1 Y1
-abbrev pub four_line : (Rectangle → Act) → List Token → Option Statement
-four_line act (NameToken l ∷ ts) = option_map (λ r. CallLine (l ∷ []) (act r)) (last_four ts)
+abbrev pub four_line : (Four → Act) → List Token → Option Statement
+four_line act (NameToken l ∷ ts) = option_map (λ n. CallLine (l ∷ []) (act n)) (last_four ts)
 four_line act _ = None
 
 -- scrollraster L DX DY X0 Y0 X1 Y1
 abbrev pub scrollraster_line : List Token → Option Statement
 scrollraster_line (NameToken l ∷ NumberToken a dx ∷ NumberToken b dy ∷ ts) =
-    option_map (λ rect. CallLine (l ∷ []) (ScrollRasterAct dx dy rect)) (last_four ts)
+    option_map (λ n. CallLine (l ∷ []) (ScrollRasterAct dx dy (bounds n))) (last_four ts)
 scrollraster_line _ = None
 
 -- the minterm that bytes are: one byte whose lower four bits are 0
@@ -282,14 +289,14 @@ abbrev pub last_minterm : List Token → Option ℕ
 last_minterm (mm ∷ []) = minterm_of (bytes_in 1 mm)
 last_minterm _ = None
 
--- what ends the line of a blit: X Y W H MM, its four numbers a place, a width and a height
-abbrev pub blit_end : List Token → Option (Rectangle × ℕ)
+-- what ends the line of a blit: X Y W H MM
+abbrev pub blit_end : List Token → Option (Four × ℕ)
 blit_end ts = option_and_then (λ target. option_map (λ m. (target.0, m)) (last_minterm target.1)) (four_numbers ts)
 
 -- a blit from this place, to the place and of the size that four numbers are, and with this minterm
-abbrev pub blit_area : ℤ → ℤ → Rectangle → ℕ → Area
+abbrev pub blit_area : ℤ → ℤ → Four → ℕ → Area
 blit_area sx sy to m =
-    record { sx = sx; sy = sy; x = to.min_x; y = to.min_y; w = to.max_x; h = to.max_y; minterm = m }
+    record { sx = sx; sy = sy; x = to.first; y = to.second; w = to.third; h = to.fourth; minterm = m }
 
 -- put BM SX SY L X Y W H MM
 abbrev pub put_line : List Token → Option Statement
@@ -363,31 +370,31 @@ at_end statement [] = Some statement
 at_end statement (t ∷ ts) = None
 
 -- a layer that is asked for without a bitmap of its own
-abbrev pub new_without_bitmap : Kind → Place → Rectangle → Bool → Option ℤ → NewLayer
+abbrev pub new_without_bitmap : Kind → Place → Four → Bool → Option ℤ → NewLayer
 new_without_bitmap kind place numbers backdrop hook =
     record { kind = kind; place = place; numbers = numbers; backdrop = backdrop; hook = hook; bits_w = pos 0; bits_h = pos 0 }
 
 -- a layer that is asked for with a bitmap of its own
-abbrev pub new_super : Place → Rectangle → Bool → ℤ → ℤ → NewLayer
+abbrev pub new_super : Place → Four → Bool → ℤ → ℤ → NewLayer
 new_super place numbers backdrop w h =
     record { kind = SuperBitmap; place = place; numbers = numbers; backdrop = backdrop; hook = None; bits_w = w; bits_h = h }
 
 -- what stands after the four numbers of a creation without a bitmap of its own: [backdrop] [hook N]
-abbrev pub create_without_bitmap : List ℕ → Kind → Place → Rectangle → List Token → Option Statement
+abbrev pub create_without_bitmap : List ℕ → Kind → Place → Four → List Token → Option Statement
 create_without_bitmap l kind place numbers ts =
     let backdrop = flag (codes "backdrop") ts in
     let hook = hook_option backdrop.1 in
     at_end (CallLine (l ∷ []) (CreateAct (new_without_bitmap kind place numbers backdrop.0 hook.0))) hook.1
 
 -- what stands after those of a creation with one: BW BH [backdrop]
-abbrev pub create_super : List ℕ → Place → Rectangle → List Token → Option Statement
+abbrev pub create_super : List ℕ → Place → Four → List Token → Option Statement
 create_super l place numbers (NumberToken a w ∷ NumberToken b h ∷ ts) =
     let backdrop = flag (codes "backdrop") ts in
     at_end (CallLine (l ∷ []) (CreateAct (new_super place numbers backdrop.0 w h))) backdrop.1
 create_super l place numbers _ = None
 
 -- what stands after those of a creation of this kind
-abbrev pub create_kind : List ℕ → Place → Rectangle → List Token → Kind → Option Statement
+abbrev pub create_kind : List ℕ → Place → Four → List Token → Kind → Option Statement
 create_kind l place numbers ts Simple = create_without_bitmap l Simple place numbers ts
 create_kind l place numbers ts Smart = create_without_bitmap l Smart place numbers ts
 create_kind l place numbers ts SuperBitmap = create_super l place numbers ts
@@ -400,7 +407,7 @@ titled_line l layer framed nocare classes _ = None
 
 -- what stands after the four numbers of an opening without a bitmap of its own: [backdrop] [borderless] [nocare] [hook N]
 -- [ask SET] "TITLE"
-abbrev pub open_without_bitmap : List ℕ → Kind → Place → Rectangle → List Token → Option Statement
+abbrev pub open_without_bitmap : List ℕ → Kind → Place → Four → List Token → Option Statement
 open_without_bitmap l kind place numbers ts =
     let backdrop = flag (codes "backdrop") ts in
     let borderless = flag (codes "borderless") backdrop.1 in
@@ -410,7 +417,7 @@ open_without_bitmap l kind place numbers ts =
     titled_line l (new_without_bitmap kind place numbers backdrop.0 hook.0) (not borderless.0) nocare.0 ask.0 ask.1
 
 -- what stands after those of an opening with one: BW BH [backdrop] [ask SET] "TITLE"
-abbrev pub open_super : List ℕ → Place → Rectangle → List Token → Option Statement
+abbrev pub open_super : List ℕ → Place → Four → List Token → Option Statement
 open_super l place numbers (NumberToken a w ∷ NumberToken b h ∷ ts) =
     let backdrop = flag (codes "backdrop") ts in
     let ask = ask_option backdrop.1 in
@@ -418,14 +425,14 @@ open_super l place numbers (NumberToken a w ∷ NumberToken b h ∷ ts) =
 open_super l place numbers _ = None
 
 -- what stands after those of an opening of this kind
-abbrev pub open_kind : List ℕ → Place → Rectangle → List Token → Kind → Option Statement
+abbrev pub open_kind : List ℕ → Place → Four → List Token → Kind → Option Statement
 open_kind l place numbers ts Simple = open_without_bitmap l Simple place numbers ts
 open_kind l place numbers ts Smart = open_without_bitmap l Smart place numbers ts
 open_kind l place numbers ts SuperBitmap = open_super l place numbers ts
 
 -- create L KIND PLACE X0 Y0 X1 Y1 .., and open L KIND PLACE X Y W H ..
 abbrev pub new_layer_line
-    : (List ℕ → Place → Rectangle → List Token → Kind → Option Statement) → List Token → Option Statement
+    : (List ℕ → Place → Four → List Token → Kind → Option Statement) → List Token → Option Statement
 new_layer_line behind (NameToken l ∷ NameToken k ∷ NameToken p ∷ ts) =
     option_and_then (λ n. option_and_then (λ place. option_and_then (behind l place n.0 n.1) (kind_of k)) (place_of p))
     (four_numbers ts)
@@ -440,10 +447,6 @@ abbrev pub points_of : List Token → Option (List Point)
 points_of [] = Some []
 points_of (NumberToken a x ∷ NumberToken b y ∷ ts) = option_map (λ ps. point x y ∷ ps) (points_of ts)
 points_of _ = None
-
--- so many points make an area
-abbrev pub is_point_count : ℕ → Bool
-is_point_count n = nat_le 3 n && nat_le n 32
 
 -- the points of an area
 abbrev pub area_points : List Token → Option (List Point)
@@ -464,12 +467,12 @@ abbrev pub inner_kind_of : List ℕ → Option Kind
 inner_kind_of w = if bytes_eq w (codes "simple") then Some Simple else (if bytes_eq w (codes "smart") then Some Smart else None)
 
 -- the title of a window of two layers, where it is the last word
-abbrev pub titled_gzz : List ℕ → List ℕ → Kind → Place → Rectangle → ℕ → List Token → Option Line
+abbrev pub titled_gzz : List ℕ → List ℕ → Kind → Place → Four → ℕ → List Token → Option Line
 titled_gzz g i kind place box classes (TextToken title ∷ []) = Some (GzzLine g (OpenGzz i kind place box classes title))
 titled_gzz g i kind place box classes _ = None
 
 -- what stands after its four numbers: [ask SET] "TITLE"
-abbrev pub opened_gzz : List ℕ → List ℕ → Place → Rectangle → List Token → Kind → Option Line
+abbrev pub opened_gzz : List ℕ → List ℕ → Place → Four → List Token → Kind → Option Line
 opened_gzz g i place box ts kind = let ask = ask_option ts in titled_gzz g i kind place box ask.0 ask.1
 
 -- gopen G I KIND PLACE X Y W H ..
@@ -481,7 +484,7 @@ gopen_line _ = None
 
 -- gbox G X Y W H
 abbrev pub gbox_line : List Token → Option Line
-gbox_line (NameToken g ∷ ts) = option_map (λ r. GzzLine g (BoxGzz r)) (last_four ts)
+gbox_line (NameToken g ∷ ts) = option_map (λ n. GzzLine g (BoxGzz n)) (last_four ts)
 gbox_line _ = None
 
 -- gfront G, and its kin
@@ -517,9 +520,9 @@ statement_by ClearRegion ts = clear_line ts
 statement_by Create ts = new_layer_line create_kind ts
 statement_by Open ts = new_layer_line open_kind ts
 statement_by InFront ts = infront_line ts
-statement_by Box ts = four_line (λ r. BoxAct r) ts
+statement_by Box ts = four_line (λ n. BoxAct n) ts
 statement_by Which ts = which_line ts
-statement_by Fill ts = four_line (λ r. FillAct r) ts
+statement_by Fill ts = four_line (λ n. FillAct (bounds n)) ts
 statement_by ScrollRaster ts = scrollraster_line ts
 statement_by Put ts = put_line ts
 statement_by Blit ts = blit_line ts
@@ -555,8 +558,8 @@ abbrev pub is_new_layer_in_range : NewLayer → Bool
 is_new_layer_in_range a = is_hook_number a.hook && is_own_size a.kind a.bits_w a.bits_h
 
 -- a place, a width and a height
-abbrev pub place_and_size_fit : Rectangle → Bool
-place_and_size_fit r = coordinates_fit r.min_x r.min_y && (is_extent r.max_x && is_extent r.max_y)
+abbrev pub place_and_size_fit : Four → Bool
+place_and_size_fit n = coordinates_fit n.first n.second && (is_extent n.third && is_extent n.fourth)
 
 -- a blit's numbers
 abbrev pub is_area_in_range : Area → Bool
@@ -579,9 +582,9 @@ is_act_in_range (PairAct verb x y) = coordinates_fit x y
 is_act_in_range (RegRectAct op r rect) = within (pos 0) r (pos 7) && rect_fits rect
 is_act_in_range (RegPairAct op s r) = within (pos 0) s (pos 7) && within (pos 0) r (pos 7)
 is_act_in_range (RegClearAct r) = within (pos 0) r (pos 7)
-is_act_in_range (CreateAct layer) = rect_fits layer.numbers && is_new_layer_in_range layer
+is_act_in_range (CreateAct layer) = rect_fits (bounds layer.numbers) && is_new_layer_in_range layer
 is_act_in_range (OpenAct layer framed nocare classes title) = place_and_size_fit layer.numbers && is_new_layer_in_range layer
-is_act_in_range (BoxAct r) = place_and_size_fit r
+is_act_in_range (BoxAct n) = place_and_size_fit n
 is_act_in_range (WhichAct x y) = coordinates_fit x y
 is_act_in_range (FillAct rect) = rect_fits rect
 is_act_in_range (ScrollRasterAct dx dy rect) = coordinates_fit dx dy && rect_fits rect
@@ -612,11 +615,11 @@ is_line_in_range version statement = true
 
 -- A box that a window of two layers may have on a screen of this width and height: its first and last column and row are
 -- coordinates, it has room for a frame, and it is no wider and no higher than the screen.
-abbrev pub is_gzz_box : ℕ → ℕ → Rectangle → Bool
-is_gzz_box width height r =
-    coordinates_fit r.min_x r.min_y
-    && ((within (pos 9) r.max_x (pos width) && within (pos 14) r.max_y (pos height))
-    && coordinates_fit ((r.min_x +ℤ r.max_x) -ℤ pos 1) ((r.min_y +ℤ r.max_y) -ℤ pos 1))
+abbrev pub is_gzz_box : ℕ → ℕ → Four → Bool
+is_gzz_box width height n =
+    coordinates_fit n.first n.second
+    && ((within (pos 9) n.third (pos width) && within (pos 14) n.fourth (pos height))
+    && coordinates_fit ((n.first +ℤ n.third) -ℤ pos 1) ((n.second +ℤ n.fourth) -ℤ pos 1))
 
 -- the box of what is done with such a window, if it has one, is one that it may have
 abbrev pub is_gzz_in_range : ℕ → ℕ → GzzAct → Bool

@@ -25,7 +25,7 @@ use Rattle.lw_grammar.specs.declared.verb.PairVerb.{PairVerb}
 use Rattle.lw_grammar.specs.declared.verb.PairVerb.TheVariants.{Move as MoveVerb, Size as SizeVerb, At as AtVerb, Write as WriteVerb, Read as ReadVerb, Draw as DrawVerb, Scroll as ScrollVerb}
 use Rattle.lw_grammar.specs.declared.verb.TextVerb.{TextVerb}
 use Rattle.lw_grammar.specs.declared.verb.TextVerb.TheVariants.{Text as TextOf, Title as TitleVerb}
-use Rattle.lw_grammar.specs.Statements.{NewLayer, Act, BareAct, NumberAct, PairAct, TextAct, RegRectAct, RegPairAct, RegClearAct, CreateAct, OpenAct, InFrontAct, BoxAct, WhichAct, FillAct, ScrollRasterAct, PutAct, BlitAct, EndRefreshAct, Statement, LayersLine, ScreenLine, GlyphLine, BitmapLine, RowLine, PatternLine, TaskLine, EndLine, OrderLine, NumbersLine, ReportLine, CallLine, LockLine, UnlockLine, HoldLine, ReleaseLine, NameSeen, PairMade, GzzAct, OpenGzz, BoxGzz, FrontGzz, BehindGzz, InFrontGzz, CloseGzz, Line, StatementLine, AreaLine, GzzLine, four, new_without_bitmap, version_at_screen}
+use Rattle.lw_grammar.specs.Statements.{NewLayer, Act, BareAct, NumberAct, PairAct, TextAct, RegRectAct, RegPairAct, RegClearAct, CreateAct, OpenAct, InFrontAct, BoxAct, WhichAct, FillAct, ScrollRasterAct, PutAct, BlitAct, EndRefreshAct, Statement, LayersLine, ScreenLine, GlyphLine, BitmapLine, RowLine, PatternLine, TaskLine, EndLine, OrderLine, NumbersLine, ReportLine, CallLine, LockLine, UnlockLine, HoldLine, ReleaseLine, NameSeen, PairMade, GzzAct, OpenGzz, BoxGzz, FrontGzz, BehindGzz, InFrontGzz, CloseGzz, Line, StatementLine, AreaLine, GzzLine, Four, four, bounds, new_without_bitmap, version_at_screen}
 
 -- The parts of a script, by what is due in them: the screen, before which the version may stand; glyphs, bitmaps, patterns and
 -- the first task; in a task calls, groups or its end; after a task a further one, an order or a report; numbers of an order;
@@ -153,12 +153,12 @@ make_of a x y w h =
 -- the bounds that a creation asks for as a corner and a size
 abbrev pub created_make : NewLayer → Make
 created_make a =
-    make_of a a.numbers.min_x a.numbers.min_y ((a.numbers.max_x -ℤ a.numbers.min_x) +ℤ pos 1)
-    ((a.numbers.max_y -ℤ a.numbers.min_y) +ℤ pos 1)
+    let r = bounds a.numbers in
+    make_of a r.min_x r.min_y ((r.max_x -ℤ r.min_x) +ℤ pos 1) ((r.max_y -ℤ r.min_y) +ℤ pos 1)
 
 -- an opening asks for a place, a width and a height
 abbrev pub opened_make : NewLayer → Make
-opened_make a = make_of a a.numbers.min_x a.numbers.min_y a.numbers.max_x a.numbers.max_y
+opened_make a = make_of a a.numbers.first a.numbers.second a.numbers.third a.numbers.fourth
 
 -- The calls of the verbs that have a layer alone after them, and one with a number, with two numbers or with a text; s is the
 -- layer's slot.
@@ -206,7 +206,7 @@ spelled_call bitmaps (CreateAct layer) slots = Create (slice_index slots 0) (cre
 spelled_call bitmaps (OpenAct layer framed nocare classes title) slots =
     OpenWindow (slice_index slots 0) (opened_make layer) framed nocare classes title
 spelled_call bitmaps InFrontAct slots = InFrontOf (slice_index slots 0) (slice_index slots 1)
-spelled_call bitmaps (BoxAct r) slots = SetBox (slice_index slots 0) r.min_x r.min_y r.max_x r.max_y
+spelled_call bitmaps (BoxAct n) slots = SetBox (slice_index slots 0) n.first n.second n.third n.fourth
 spelled_call bitmaps (WhichAct x y) slots = Which x y
 spelled_call bitmaps (FillAct rect) slots = Fill (slice_index slots 0) rect
 spelled_call bitmaps (ScrollRasterAct dx dy rect) slots = ScrollRaster (slice_index slots 0) dx dy rect
@@ -339,10 +339,10 @@ abbrev pub inner_of : List NamedPair → List ℕ → List ℕ
 inner_of [] name = []
 inner_of (p ∷ ps) name = if bytes_eq name p.outer then p.inner else inner_of ps name
 
--- The box of the inner layer in that of the outer one: a frame takes 4 columns on each side, 11 rows at the top and 2 at the
--- bottom.
-abbrev pub inner_box : Rectangle → Rectangle
-inner_box r = four (r.min_x +ℤ pos 4) (r.min_y +ℤ pos 11) (r.max_x -ℤ pos 8) (r.max_y -ℤ pos 13)
+-- The box X Y W H of the inner layer in that of the outer one: a frame takes 4 columns on each side, 11 rows at the top and 2 at
+-- the bottom.
+abbrev pub inner_box : Four → Four
+inner_box n = four (n.first +ℤ pos 4) (n.second +ℤ pos 11) (n.third -ℤ pos 8) (n.fourth -ℤ pos 13)
 
 -- the calls of what is done with a window of these two layers
 abbrev pub gzz_calls : List ℕ → List ℕ → GzzAct → List Statement
@@ -351,7 +351,7 @@ gzz_calls g i (OpenGzz inner kind place r classes title) =
     ∷ CallLine (i ∷ []) (OpenAct (new_without_bitmap kind place (inner_box r) false None) false false classes [])
     ∷ CallLine (i ∷ g ∷ []) InFrontAct
     ∷ []
-gzz_calls g i (BoxGzz r) = CallLine (g ∷ []) (BoxAct r) ∷ CallLine (i ∷ []) (BoxAct (inner_box r)) ∷ []
+gzz_calls g i (BoxGzz n) = CallLine (g ∷ []) (BoxAct n) ∷ CallLine (i ∷ []) (BoxAct (inner_box n)) ∷ []
 gzz_calls g i FrontGzz = CallLine (g ∷ []) (BareAct FrontVerb) ∷ CallLine (i ∷ []) (BareAct FrontVerb) ∷ []
 gzz_calls g i BehindGzz = CallLine (i ∷ []) (BareAct BehindVerb) ∷ CallLine (g ∷ []) (BareAct BehindVerb) ∷ []
 gzz_calls g i (InFrontGzz m) = CallLine (g ∷ m ∷ []) InFrontAct ∷ CallLine (i ∷ g ∷ []) InFrontAct ∷ []

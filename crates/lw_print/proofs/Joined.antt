@@ -2,7 +2,7 @@
 use Rattle.std.proofs.Common.{◌≡◌, ℕ, List, [], ◌∷◌, ◌++◌, append_assoc, append-nil, ◌∙◌, sym, refl, ap}
 use Rattle.lw_region.specs.Rectangle.{Rectangle}
 use Rattle.lw_calls.specs.Written.{line_of, spaced_bounds}
-use Rattle.lw_canonical.specs.Spelling.{joined, four_words}
+use Rattle.lw_canonical.specs.Spelling.{joined, bounds_words}
 use Rattle.lw_print.specs.Behind.{behind, first_word, other_words}
 
 -- words with single spaces are the first, and the others each after a space
@@ -36,5 +36,5 @@ pub word_more : (word w : List ℕ) (ws : List (List ℕ)) (start p q : List ℕ
 word_more word w ws start p q is e f = more_behind (w ∷ []) ws start p q (word_written word w start p is e) f
 
 -- the bounds of a rectangle
-pub bounds_behind : (r : Rectangle) (start p : List ℕ) → p ≡ start ++ spaced_bounds r → p ≡ start ++ behind (four_words r)
+pub bounds_behind : (r : Rectangle) (start p : List ℕ) → p ≡ start ++ spaced_bounds r → p ≡ start ++ behind (bounds_words r)
 bounds_behind r start p e = rw e (simp (append_assoc, append-nil))

@@ -10,8 +10,8 @@ use Rattle.lw_calls.specs.Orders.{occurrences}
 use Rattle.lw_calls.proofs.OrdersComplete.{occurs_again, occurs_as_before}
 use Rattle.lw_machine.specs.Arrangement.{without}
 use Rattle.lw_machine.proofs.ListSound.{occurrences_without_same, occurrences_without_other, occurrences_moved}
-use Rattle.lw_screens.specs.Display.{Display, screen_of, dragged, with_top, after, acted_on, placed, last_first, opened}
-use Rattle.lw_screens.specs.Laws.{after_all, HasEachScreenOnce}
+use Rattle.lw_screens.specs.Display.{Display, screen_of, dragged, with_top, after, acted_on, placed, last_first, opened, after_all}
+use Rattle.lw_screens.specs.Laws.{HasEachScreenOnce}
 use Rattle.lw_screens.specs.declared.act.Act.{Act}
 use Rattle.lw_screens.specs.declared.act.Act.TheVariants.{Drag, ToFront, ToBack}
 use Rattle.lw_screens.proofs.Changes.{placed_length}

@@ -53,6 +53,11 @@ after (Drag k dy) d =
 after (ToFront k) d = record d { order = k ∷ without k d.order }
 after (ToBack k) d = record d { order = without k d.order ++ k ∷ [] }
 
+-- the display after these acts, one after another
+abbrev pub after_all : List Act → Display → Display
+after_all [] d = d
+after_all (act ∷ acts) d = after_all acts (after act d)
+
 -- the number of the screen that an act is on
 abbrev pub acted_on : Act → ℕ
 acted_on (Drag k dy) = k

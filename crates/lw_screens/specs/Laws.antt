@@ -2,7 +2,7 @@
 use Rattle.std.specs.Prelude.{◌≡◌, ◌≢◌, ℕ, ◌+◌, ◌<◌, ◌≤◌, nat_lt, if◌then◌else◌, List, [], ◌∷◌, length, Option}
 use Rattle.std.specs.List.{All}
 use Rattle.lw_calls.specs.Orders.{occurrences}
-use Rattle.lw_screens.specs.Display.{Display, owner_of, after, acted_on, opened}
+use Rattle.lw_screens.specs.Display.{Display, owner_of, after_all, acted_on, opened}
 use Rattle.lw_screens.specs.Bands.{bands_of}
 use Rattle.lw_screens.specs.declared.act.Act.{Act}
 use Rattle.lw_screens.specs.declared.bands.Band.{Band}
@@ -23,11 +23,6 @@ AreLongestRuns owner y end (b ∷ bs) = IsLongestRun owner y end b × AreLongest
 -- The bands of a display are the longest runs of its rows with one owner, one after another from the top.
 abbrev pub BandsAreLongestRuns : Display → Type 0
 BandsAreLongestRuns d = AreLongestRuns (owner_of d) 0 d.height (bands_of d)
-
--- the display after these acts, one after another
-abbrev pub after_all : List Act → Display → Display
-after_all [] d = d
-after_all (act ∷ acts) d = after_all acts (after act d)
 
 -- the order of a display has the number of each of its screens once, and no other number
 abbrev pub HasEachScreenOnce : Display → Type 0

@@ -7,7 +7,7 @@ use Rattle.lw_area.specs.declared.point.Point.{Point}
 use Rattle.lw_area.specs.declared.spans.Spans.{Spans}
 use Rattle.lw_area.specs.declared.spans.Spans.TheVariants.{Rects, TooMany as MoreSpans}
 use Rattle.lw_area.specs.Areas.{area_rectangles, AreSpans}
-use Rattle.lw_area.specs.Polygons.{is_in_range, IsPolygon}
+use Rattle.lw_area.specs.Polygons.{is_in_range, is_point_count, IsPolygon}
 use Rattle.lw_calls.specs.Limits.{limits_of}
 use Rattle.lw_grammar.specs.declared.reason.Reason.{Reason}
 use Rattle.lw_grammar.specs.declared.reason.Reason.TheVariants.{Range, NoName, Group, TooMany}
@@ -37,11 +37,11 @@ found_is None P v a h e = absurd (cc)
 found_is (Some b) P v a h e = let same : b ≡ a = cc in sym same ∙ h.1
 
 -- points in range are those of a polygon
-pub polygon_made : (points : List AskedPoint) (corners : List Point) → corners ≡ map point_meaning points → list_all (λ p. is_in_range (point_meaning p)) points ≡ true → 3 ≤ length points → length points ≤ 32 → IsPolygon corners
-polygon_made points corners e range least most =
+pub polygon_made : (points : List AskedPoint) (corners : List Point) → corners ≡ map point_meaning points → list_all (λ p. is_in_range (point_meaning p)) points ≡ true → is_point_count (length points) ≡ true → IsPolygon corners
+polygon_made points corners e range count =
     let long : length (map point_meaning points) ≡ length points = length-map points point_meaning in
     let all : list_all is_in_range (map point_meaning points) ≡ true = list_all-map is_in_range point_meaning points ∙ range in
-    subst IsPolygon (sym e) (record { least = omega (arith, long, least); most = omega (arith, long, most); range = all })
+    subst IsPolygon (sym e) (record { count = ap is_point_count long ∙ count; range = all })
 
 -- the place of a name that is among names
 place_within : (name : List ℕ) (ns : List (List ℕ)) → list_any (bytes_eq name) ns ≡ true → place_among ns name < length ns

@@ -1,18 +1,16 @@
 -- What the line of a call makes of the lines above it.
-use Rattle.std.proofs.Common.{◌≡◌, ℕ, ◌+◌, ◌-◌, ◌≤◌, false, cond, List, [], ◌∷◌, length, map, refl, sym, ap, ◌∙◌, arith}
+use Rattle.std.proofs.Common.{◌≡◌, ℕ, ◌+◌, ◌-◌, ◌≤◌, cond, List, [], ◌∷◌, length, map, refl, sym, ap, ◌∙◌, arith}
 use Rattle.std.specs.Bool.{IsTrue}
 use Rattle.lw_calls.specs.declared.call.Call.{Call}
 use Rattle.lw_calls.specs.declared.group.Group.{Group}
 use Rattle.lw_calls.specs.declared.group.Hold.TheVariants.{Slot}
-use Rattle.lw_grammar.specs.declared.verb.BareVerb.TheVariants.{Close as CloseVerb}
 use Rattle.lw_grammar.specs.declared.verb.NumberVerb.TheVariants.{Hook as HookVerb}
-use Rattle.lw_grammar.specs.Statements.{Act, BareAct, NumberAct, PairAct, TextAct, RegRectAct, RegPairAct, RegClearAct, CreateAct, OpenAct, InFrontAct, WhichAct, PutAct, BlitAct, EndRefreshAct, Statement, CallLine, layers_of, is_hook_number, is_act_in_range}
+use Rattle.lw_grammar.specs.Statements.{Act, NumberAct, RegRectAct, RegPairAct, RegClearAct, CreateAct, OpenAct, InFrontAct, WhichAct, PutAct, BlitAct, EndRefreshAct, Statement, CallLine, layers_of, is_hook_number, is_act_in_range}
 use Rattle.lw_grammar.specs.Told.{and_names, place_among, onto_last, spelled_call, call_below, hook_on, told}
 use Rattle.lw_grammar.specs.Script.{is_ending}
 use Rattle.lw_statements.specs.CallMeaning.{IsBitmapAt}
 use Rattle.lw_script.specs.CallParts.{first_place, second_place, bitmap_place}
 use Rattle.std.proofs.lemmas.Bool.{and_parts}
-use Rattle.lw_grammar.proofs.ScriptGroups.{number_plain, pair_plain, text_plain}
 use Rattle.lw_script.proofs.NamesAdded.{place_of_one, places_of_two}
 
 -- an act that names no layer doesn't look at slots
@@ -48,10 +46,6 @@ call_spelled b names (l ∷ []) act e = named_one b act _ _ e ∙ ap (spelled_ca
 call_spelled b names (l ∷ m ∷ []) act e = ap (spelled_call b act) (sym (places_of_two names l m _ _ refl refl))
 call_spelled b names (l ∷ m ∷ k ∷ ls) act e = absurd (omega (arith, e, at_most_two act))
 
--- the groups, where a call ends none
-plain_with : (above : List Statement) (ls : List (List ℕ)) (act : Act) (ended : List (List Group)) → is_ending act ≡ false → (told (CallLine ls act ∷ above)).groups ≡ (told above).groups → (told (CallLine ls act ∷ above)).groups ≡ cond (is_ending act) ended (told above).groups
-plain_with above ls act ended plain kept = rw plain kept
-
 -- the groups, where a call ends one or not
 pub groups_with : (above : List Statement) (ls : List (List ℕ)) (act : Act) → length ls ≡ layers_of act → (told (CallLine ls act ∷ above)).groups ≡ cond (is_ending act) (onto_last (record { first = (told above).began; last = (told above).so_far; hold = Slot (first_place (told above).names ls) }) (told above).groups) (told above).groups
 groups_with above [] (EndRefreshAct full) e = absurd (omega (arith, e))
@@ -59,10 +53,6 @@ groups_with above (l ∷ []) (EndRefreshAct full) e =
     let n : ((told above).so_far + 1) - 1 ≡ (told above).so_far = omega arith in
     ap (λ last. onto_last (record { first = (told above).began; last = last; hold = Slot (place_among (told above).names l) }) (told above).groups) n
 groups_with above (l ∷ m ∷ ls) (EndRefreshAct full) e = absurd (omega (arith, e))
-groups_with above ls (NumberAct verb n) e = plain_with above ls (NumberAct verb n) _ (number_plain verb n).1 refl
-groups_with above ls (PairAct verb x y) e = plain_with above ls (PairAct verb x y) _ (pair_plain verb x y).1 refl
-groups_with above ls (TextAct verb text) e = plain_with above ls (TextAct verb text) _ (text_plain verb text).1 refl
-groups_with above ls (BareAct CloseVerb) e = refl
 groups_with above ls act e = refl
 
 -- a hook's number is in its range where the act's numbers are

@@ -2,7 +2,7 @@
 ghost use Rattle.std.specs.Prelude.{◌≡◌, ◌≤◌, ◌∷◌, [], false, map, length, negsuc, pos, IsTrue, IfOk, OnOk, List};
 ghost use Rattle.std.specs.List.{list_all};
 ghost use Rattle.lw_region.specs.Rectangle.{within};
-ghost use Rattle.lw_area.specs.Polygons.{is_in_range};
+ghost use Rattle.lw_area.specs.Polygons.{is_in_range, is_point_count};
 ghost use Rattle.lw_area.specs.Areas.{AreSpans};
 ghost use Rattle.lw_calls.specs.Limits.{limits_of};
 ghost use Rattle.lw_grammar.specs.Statements.{Statement as StatementValue, FillAct, CallLine};
@@ -47,8 +47,7 @@ fn corner(point: &AskedPoint) -> Point
 /// The polygon of these points.
 fn polygon_of(alloc: Global, points: &[AskedPoint]) -> Result<Polygon, AllocError>
     requires range { IsTrue (list_all (λ p. is_in_range (point_meaning p)) points.now) }
-    requires least { 3 ≤ length points.now }
-    requires most { length points.now ≤ 32 }
+    requires count { IsTrue (is_point_count (length points.now)) }
     ensures { IfOk result (λ polygon. polygon ≡ map point_meaning points.now) }
 {
     let mut corners = Vec::new(alloc);

@@ -2,8 +2,9 @@
 use Rattle.std.proofs.Common.{◌≡◌, ℕ, ◌+◌, ◌<◌, Bool, true, false, ◌&&◌, nat_le, if◌then◌else◌, List, [], ◌∷◌, length, map, Option, Some, None, IfSome, option_map, refl, sym, ap, arith}
 use Rattle.std.specs.Option.{option_and_then}
 use Rattle.lw_area.specs.declared.point.Point.{Point}
+use Rattle.lw_area.specs.Polygons.{is_point_count}
 use Rattle.lw_grammar.specs.Tokens.{Token, NumberToken}
-use Rattle.lw_grammar.specs.Statements.{point, points_of, is_point_count, area_points}
+use Rattle.lw_grammar.specs.Statements.{point, points_of, area_points}
 use Rattle.lw_words.specs.declared.token.Token.{Token as Reading}
 use Rattle.lw_words.specs.TokenMeaning.{token_meaning}
 use Rattle.std.proofs.lemmas.Bool.Decides.{nat_tests}

@@ -1,8 +1,8 @@
 -- The box of a window of two layers is told along both axes.
 use Rattle.std.proofs.Common.{◌≡◌, ℕ, ◌≤◌, Bool, true, false, ◌&&◌, ℤ, pos, ◌+ℤ◌, ◌-ℤ◌, FitsSigned, to_z, of_z, w64, refl, arith}
-use Rattle.lw_region.specs.Rectangle.{Rectangle, within}
+use Rattle.lw_region.specs.Rectangle.{within}
 use Rattle.lw_calls.specs.Limits.{is_coordinate, coordinates_fit}
-use Rattle.lw_grammar.specs.Statements.{four, is_gzz_box}
+use Rattle.lw_grammar.specs.Statements.{four, is_gzz_box, Four}
 use Rattle.lw_grammar.specs.Told.{inner_box}
 use Rattle.std.proofs.lemmas.Int.{ints, to_z-of_z}
 use Rattle.std.proofs.lemmas.Bool.{and_parts}
@@ -20,8 +20,8 @@ shuffled true true true false true f = refl
 shuffled true true true true false f = refl
 shuffled true true true true true f = refl
 
-pub box_by_axes : (width height : ℕ) (r : Rectangle) → ((is_coordinate r.min_x && (within (pos 9) r.max_x (pos width) && is_coordinate ((r.min_x +ℤ r.max_x) -ℤ pos 1))) && (is_coordinate r.min_y && (within (pos 14) r.max_y (pos height) && is_coordinate ((r.min_y +ℤ r.max_y) -ℤ pos 1)))) ≡ is_gzz_box width height r
-box_by_axes width height r = shuffled (is_coordinate r.min_x) (is_coordinate r.min_y) (within (pos 9) r.max_x (pos width)) (within (pos 14) r.max_y (pos height)) (is_coordinate ((r.min_x +ℤ r.max_x) -ℤ pos 1)) (is_coordinate ((r.min_y +ℤ r.max_y) -ℤ pos 1))
+pub box_by_axes : (width height : ℕ) (r : Four) → ((is_coordinate r.first && (within (pos 9) r.third (pos width) && is_coordinate ((r.first +ℤ r.third) -ℤ pos 1))) && (is_coordinate r.second && (within (pos 14) r.fourth (pos height) && is_coordinate ((r.second +ℤ r.fourth) -ℤ pos 1)))) ≡ is_gzz_box width height r
+box_by_axes width height r = shuffled (is_coordinate r.first) (is_coordinate r.second) (within (pos 9) r.third (pos width)) (within (pos 14) r.fourth (pos height)) (is_coordinate ((r.first +ℤ r.third) -ℤ pos 1)) (is_coordinate ((r.second +ℤ r.fourth) -ℤ pos 1))
 
 -- the place and the size of an inner layer are numbers of 64 bits
 place_kept : (x : ℤ) (k : ℕ) → k ≤ 13 → FitsSigned w64 x → is_coordinate x ≡ true → to_z w64 (of_z w64 (to_z w64 (of_z w64 x) +ℤ pos k)) ≡ x +ℤ pos k

@@ -1,12 +1,11 @@
 -- The words of a pattern, one after another.
-use Rattle.std.proofs.Common.{◌≡◌, ℕ, suc, ◌+◌, ◌<◌, true, false, List, [], ◌∷◌, ◌++◌, length, map, drop, get_or, drop-cons, add-one, append_assoc, Option, Some, None, option_map, inl, inr, refl, sym, ap, subst, ◌∙◌}
+use Rattle.std.proofs.Common.{◌≡◌, ℕ, suc, ◌+◌, ◌<◌, Bool, true, false, List, [], ◌∷◌, ◌++◌, length, map, drop, get_or, drop-cons, add-one, append_assoc, Option, Some, None, option_map, refl, sym, ap, subst, ◌∙◌}
 use Rattle.std.specs.Option.{option_and_then}
-use Rattle.lw_area.specs.Patterns.{IsCount, IsPattern}
+use Rattle.lw_area.specs.Patterns.{is_pattern_count, IsPattern}
 use Rattle.lw_grammar.specs.Tokens.{Token, NameToken, bytes_in}
-use Rattle.lw_grammar.specs.Statements.{PatternLine, pattern_word, pattern_words, is_pattern_count, pattern_line}
+use Rattle.lw_grammar.specs.Statements.{PatternLine, pattern_word, pattern_words, pattern_line}
 use Rattle.lw_words.specs.declared.token.Token.{Token as Reading}
 use Rattle.lw_words.specs.TokenMeaning.{token_meaning}
-use Rattle.std.proofs.lemmas.Bool.{ne_eqb}
 
 -- a word more, before those of the tokens that are left
 with_word : (old : List ℕ) (w : ℕ) (t : Token) (ts : List Token) → Some w ≡ pattern_word (bytes_in 2 t) → option_map (λ ws. old ++ ws) (pattern_words (t ∷ ts)) ≡ option_map (λ ws. (old ++ w ∷ []) ++ ws) (pattern_words ts)
@@ -37,23 +36,13 @@ words_long (t ∷ ts) ws e = go (pattern_word (bytes_in 2 t)) (pattern_words ts)
 pub words_found : {A B : Type 0} (f : A → B) (o : Option A) (a : A) (r : Option B) → o ≡ Some a → option_map f o ≡ r → Some (f a) ≡ r
 words_found f o a r e h = ap (option_map f) (sym e) ∙ h
 
--- so many words make a pattern, or none
-counts : (n : ℕ) → IsCount n → is_pattern_count n ≡ true
-counts n (inl e) = rw e refl
-counts n (inr (inl e)) = rw e refl
-counts n (inr (inr (inl e))) = rw e refl
-counts n (inr (inr (inr (inl e)))) = rw e refl
-counts n (inr (inr (inr (inr e)))) = rw e refl
-
-counts_not : (n : ℕ) → (IsCount n → ⊥) → is_pattern_count n ≡ false
-counts_not n h =
-    rw (ne_eqb n 1 (λ e. h (inl e)), ne_eqb n 2 (λ e. h (inr (inl e))), ne_eqb n 4 (λ e. h (inr (inr (inl e)))), ne_eqb n 8 (λ e. h (inr (inr (inr (inl e))))), ne_eqb n 16 (λ e. h (inr (inr (inr (inr e)))))) refl
-
 -- a line whose words are no pattern, and one whose words are one
 pub no_pattern : (name : List ℕ) (ts : List Token) (ws : List ℕ) → Some ws ≡ pattern_words ts → (IsPattern ws → ⊥) → None ≡ pattern_line (NameToken name ∷ ts)
-no_pattern name ts ws e h =
-    rw (counts_not (length ts) (λ k. h (subst IsCount (sym (words_long ts ws (sym e))) k))) refl
+no_pattern name ts ws e h = rw (sym (ap is_pattern_count (words_long ts ws (sym e))) ∙ not_true (is_pattern_count (length ws)) h) refl
+  where
+    not_true : (b : Bool) → (b ≡ true → ⊥) → b ≡ false
+    not_true true k = absurd (k refl)
+    not_true false k = refl
 
 pub pattern_made : (name : List ℕ) (ts : List Token) (ws pattern : List ℕ) → Some ws ≡ pattern_words ts → IsPattern ws → pattern ≡ ws → Some (PatternLine name pattern) ≡ pattern_line (NameToken name ∷ ts)
-pattern_made name ts ws pattern e k same =
-    rw (counts (length ts) (subst IsCount (words_long ts ws (sym e)) k), ← e, same) refl
+pattern_made name ts ws pattern e k same = rw (sym (ap is_pattern_count (words_long ts ws (sym e))) ∙ k, ← e, same) refl

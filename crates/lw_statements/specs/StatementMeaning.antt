@@ -1,9 +1,8 @@
 -- What a statement of the reader means.
 use Rattle.std.specs.Prelude.{List, [], ◌∷◌, ℕ, map, option_map}
-use Rattle.lw_region.specs.Rectangle.{Rectangle}
 use Rattle.lw_area.specs.declared.point.Point.{Point}
 use Rattle.lw_calls.specs.declared.area.Area.{Area}
-use Rattle.lw_grammar.specs.Statements.{NewLayer as NewLayerMeaning, Act as ActMeaning, BareAct, NumberAct, PairAct, TextAct, RegRectAct, RegPairAct, RegClearAct, CreateAct, OpenAct, InFrontAct, BoxAct, WhichAct, FillAct, ScrollRasterAct, PutAct, BlitAct, EndRefreshAct, Statement as Meaning, LayersLine, ScreenLine, GlyphLine, BitmapLine, RowLine, PatternLine, TaskLine, EndLine, OrderLine, NumbersLine, ReportLine, CallLine, LockLine, UnlockLine, HoldLine, ReleaseLine, GzzAct as GzzMeaning, OpenGzz, BoxGzz, FrontGzz, BehindGzz, InFrontGzz, CloseGzz, Line as LineMeaning, StatementLine, AreaLine, GzzLine, four, point}
+use Rattle.lw_grammar.specs.Statements.{NewLayer as NewLayerMeaning, Act as ActMeaning, BareAct, NumberAct, PairAct, TextAct, RegRectAct, RegPairAct, RegClearAct, CreateAct, OpenAct, InFrontAct, BoxAct, WhichAct, FillAct, ScrollRasterAct, PutAct, BlitAct, EndRefreshAct, Statement as Meaning, LayersLine, ScreenLine, GlyphLine, BitmapLine, RowLine, PatternLine, TaskLine, EndLine, OrderLine, NumbersLine, ReportLine, CallLine, LockLine, UnlockLine, HoldLine, ReleaseLine, GzzAct as GzzMeaning, OpenGzz, BoxGzz, FrontGzz, BehindGzz, InFrontGzz, CloseGzz, Line as LineMeaning, StatementLine, AreaLine, GzzLine, Four, four, bounds, point}
 use Rattle.lw_statements.specs.declared.statement.Corners.{Corners}
 use Rattle.lw_statements.specs.declared.statement.NewLayer.{NewLayer}
 use Rattle.lw_statements.specs.declared.statement.AskedArea.{AskedArea}
@@ -20,8 +19,7 @@ use Rattle.lw_statements.specs.declared.statement.Line.{Line}
 use Rattle.lw_statements.specs.declared.statement.Line.TheVariants.{Statement as StatementOf, Area as AreaOf, Gzz as GzzOf}
 use Rattle.lw_words.specs.Digits.{decoded}
 
--- the four numbers as bounds
-abbrev pub corners_meaning : Corners → Rectangle
+abbrev pub corners_meaning : Corners → Four
 corners_meaning c = four c.x0 c.y0 c.x1 c.y1
 
 abbrev pub new_layer_meaning : NewLayer → NewLayerMeaning
@@ -41,7 +39,7 @@ area_meaning b = record { sx = b.sx; sy = b.sy; x = b.x; y = b.y; w = b.w; h = b
 
 -- names and texts by their bytes, and all else as it stands
 abbrev pub act_meaning : Act → ActMeaning
-act_meaning (RegRect op register c) = RegRectAct op register (corners_meaning c)
+act_meaning (RegRect op register c) = RegRectAct op register (bounds (corners_meaning c))
 act_meaning (RegPair op source into) = RegPairAct op source into
 act_meaning (RegClear register) = RegClearAct register
 act_meaning (Create asked) = CreateAct (new_layer_meaning asked)
@@ -53,8 +51,8 @@ act_meaning (Bare verb) = BareAct verb
 act_meaning (Number verb z) = NumberAct verb z
 act_meaning (Pair verb x y) = PairAct verb x y
 act_meaning (Text verb t) = TextAct verb t.now
-act_meaning (Fill c) = FillAct (corners_meaning c)
-act_meaning (ScrollRaster dx dy c) = ScrollRasterAct dx dy (corners_meaning c)
+act_meaning (Fill c) = FillAct (bounds (corners_meaning c))
+act_meaning (ScrollRaster dx dy c) = ScrollRasterAct dx dy (bounds (corners_meaning c))
 act_meaning (Put bitmap b) = PutAct bitmap.now (area_meaning b)
 act_meaning (Blit b) = BlitAct (area_meaning b)
 act_meaning (EndRefresh full) = EndRefreshAct full

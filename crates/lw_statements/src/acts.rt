@@ -2,7 +2,7 @@
 ghost use Rattle.std.specs.Prelude.{◌≡◌, ℕ, List, is_none, option_map};
 ghost use Rattle.lw_grammar.specs.Statements.{CallLine};
 ghost use Rattle.lw_grammar.specs.Told.{makes_super, hook_on};
-ghost use Rattle.lw_grammar.specs.Script.{is_on_all, is_arranging, is_activating, is_beginning, is_ending, are_all, is_on_one, group_allows, allows_area, is_lock_on, is_hold, fits_group};
+ghost use Rattle.lw_grammar.specs.Script.{is_on_all, is_arranging, is_activating, is_hooking, is_beginning, is_ending, are_all, is_on_one, group_allows, allows_area, is_lock_on, is_hold, fits_group};
 ghost use Rattle.lw_statements.specs.StatementMeaning.{act_meaning, layers_meaning, statement_meaning};
 ghost use Rattle.lw_statements.specs.GroupMeaning.{group_meaning};
 
@@ -23,22 +23,6 @@ pub enum OpenGroup<'a> {
 }
 
 impl Act<'_> {
-    /// Whether its call touches all layers.
-    fn is_on_all(&self) -> bool
-        ensures { result ≡ is_on_all (act_meaning self.now) }
-    {
-        match self {
-            Act::Create(_)
-            | Act::Open { .. }
-            | Act::InFront
-            | Act::Box(_)
-            | Act::Bare(BareVerb::Close | BareVerb::Front | BareVerb::Behind | BareVerb::Activate)
-            | Act::Number(NumberVerb::Hook, _)
-            | Act::Pair(PairVerb::Move | PairVerb::Size, _, _) => true,
-            _ => false,
-        }
-    }
-
     /// Whether its call makes, closes, moves or sizes a layer, or puts it elsewhere in the list.
     pub fn is_arranging(&self) -> bool
         ensures { result ≡ is_arranging (act_meaning self.now) }
@@ -62,6 +46,23 @@ impl Act<'_> {
             Act::Bare(BareVerb::Activate) => true,
             _ => false,
         }
+    }
+
+    /// Whether its call gives a layer another hook.
+    fn is_hooking(&self) -> bool
+        ensures { result ≡ is_hooking (act_meaning self.now) }
+    {
+        match self {
+            Act::Number(NumberVerb::Hook, _) => true,
+            _ => false,
+        }
+    }
+
+    /// Whether its call is on all layers.
+    fn is_on_all(&self) -> bool
+        ensures { result ≡ is_on_all (act_meaning self.now) }
+    {
+        self.is_arranging() || self.is_activating() || self.is_hooking()
     }
 
     /// Whether it begins an update.

@@ -1,5 +1,6 @@
 //! The lines of areas.
-ghost use Rattle.std.specs.Prelude.{◌≡◌, ◌≤◌, ◌++◌, ◌∷◌, length, IfOk, IfSome, map, if◌then◌else◌, Some, None, option_map};
+ghost use Rattle.std.specs.Prelude.{◌≡◌, true, ◌++◌, ◌∷◌, length, IfOk, IfSome, map, if◌then◌else◌, Some, None, option_map, ◌≤◌};
+ghost use Rattle.lw_area.specs.Polygons.{is_point_count};
 ghost use Rattle.lw_grammar.specs.Statements.{AreaLine, points_of, area_points, area_line, area_pattern_line};
 ghost use Rattle.lw_words.specs.TokenMeaning.{token_meaning};
 ghost use Rattle.lw_statements.specs.StatementMeaning.{point_meaning, line_meaning};
@@ -44,7 +45,7 @@ fn push_points(points: &mut Vec<AskedPoint>, tokens: &[Token<'_>]) -> Result<boo
 fn area_points(alloc: Global, tokens: &[Token<'_>]) -> Result<Option<Vec<AskedPoint>>, AllocError>
     ensures points { IfOk result (λ found. option_map (λ v. map point_meaning v.items) found
         ≡ area_points (map token_meaning tokens.now)) }
-    ensures counted { IfOk result (λ found. IfSome found (λ v. (3 ≤ length v.items) × (length v.items ≤ 32))) }
+    ensures counted { IfOk result (λ found. IfSome found (λ v. is_point_count (length v.items) ≡ true)) }
 {
     if tokens.len() > 64 {
         return Ok(None);

@@ -1,5 +1,5 @@
 ghost use Rattle.std.specs.Prelude.{◌≡◌, map, option_map};
-ghost use Rattle.lw_grammar.specs.Statements.{layer_line, number_line, pair_line, text_line, rect_line, region_line, clear_line, which_line, infront_line, four_line, scrollraster_line, endrefresh_line, BoxAct, FillAct};
+ghost use Rattle.lw_grammar.specs.Statements.{layer_line, number_line, pair_line, text_line, rect_line, region_line, clear_line, which_line, infront_line, four_line, scrollraster_line, endrefresh_line, BoxAct, FillAct, bounds};
 ghost use Rattle.lw_words.specs.TokenMeaning.{token_meaning};
 ghost use Rattle.lw_statements.specs.StatementMeaning.{statement_meaning};
 
@@ -130,7 +130,7 @@ pub(crate) fn infront_line<'a>(tokens: &[Token<'a>]) -> Option<Statement<'a>>
 
 /// `box L X Y W H`
 pub(crate) fn box_line<'a>(tokens: &[Token<'a>]) -> Option<Statement<'a>>
-    ensures { option_map statement_meaning result ≡ four_line (λ r. BoxAct r) (map token_meaning tokens.now) }
+    ensures { option_map statement_meaning result ≡ four_line (λ n. BoxAct n) (map token_meaning tokens.now) }
 {
     match tokens {
         [Token::Name(layer), rest @ ..] => match only_corners(rest) {
@@ -143,7 +143,7 @@ pub(crate) fn box_line<'a>(tokens: &[Token<'a>]) -> Option<Statement<'a>>
 
 /// `fill L X0 Y0 X1 Y1`
 pub(crate) fn fill_line<'a>(tokens: &[Token<'a>]) -> Option<Statement<'a>>
-    ensures { option_map statement_meaning result ≡ four_line (λ r. FillAct r) (map token_meaning tokens.now) }
+    ensures { option_map statement_meaning result ≡ four_line (λ n. FillAct (bounds n)) (map token_meaning tokens.now) }
 {
     match tokens {
         [Token::Name(layer), rest @ ..] => match only_corners(rest) {

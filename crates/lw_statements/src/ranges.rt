@@ -3,7 +3,7 @@ ghost use Rattle.std.specs.List.{list_all};
 ghost use Rattle.lw_region.specs.Rectangle.{within};
 ghost use Rattle.lw_area.specs.Polygons.{is_in_range};
 ghost use Rattle.lw_calls.specs.Limits.{is_coordinate, axis_fits, rect_fits, coordinates_fit as places_meant, is_extent};
-ghost use Rattle.lw_grammar.specs.Statements.{is_hook_number, is_own_size, is_new_layer_in_range, place_and_size_fit, is_area_in_range, greatest_number, is_act_in_range, version_at_screen, are_sizes_in_range, is_line_in_range, is_gzz_box, is_gzz_in_range};
+ghost use Rattle.lw_grammar.specs.Statements.{is_hook_number, is_own_size, is_new_layer_in_range, place_and_size_fit, is_area_in_range, greatest_number, is_act_in_range, version_at_screen, are_sizes_in_range, is_line_in_range, is_gzz_box, is_gzz_in_range, bounds};
 ghost use Rattle.lw_statements.specs.StatementMeaning.{corners_meaning, new_layer_meaning, area_meaning, act_meaning, statement_meaning, point_meaning, gzz_meaning};
 
 use crate::statement::{
@@ -52,7 +52,7 @@ fn fits_axis(low: i64, high: i64) -> bool
 impl Corners {
     /// Whether all are coordinates and neither maximum is below its minimum.
     fn fit(&self) -> bool
-        ensures { result ≡ rect_fits (corners_meaning self.now) }
+        ensures { result ≡ rect_fits (bounds (corners_meaning self.now)) }
     {
         fits_axis(self.x0, self.x1) && fits_axis(self.y0, self.y1)
     }

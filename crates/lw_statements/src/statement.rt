@@ -1,4 +1,5 @@
-ghost use Rattle.std.specs.Prelude.{◌≤◌, length};
+ghost use Rattle.std.specs.Prelude.{◌≡◌, true, length};
+ghost use Rattle.lw_area.specs.Polygons.{is_point_count};
 ghost use Rattle.lw_statements.specs.OwnBits.{FitKind};
 
 use lw_area::Pattern;
@@ -192,8 +193,7 @@ pub struct AskedPolygon<'a> {
     pub layer: &'a [u8],
     pub pattern: Option<&'a [u8]>,
     pub points: Vec<AskedPoint>,
-    ghost least: { 3 ≤ length points.items },
-    ghost most: { length points.items ≤ 32 },
+    ghost count: { is_point_count (length points.items) ≡ true },
 }
 
 /// What a line does with a window of two layers. Names and texts stand in the input, and boxes are in the line's own numbers: a

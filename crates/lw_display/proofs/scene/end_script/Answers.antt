@@ -2,7 +2,7 @@ use Rattle.std.proofs.Common.{arith}
 use Rattle.lw_grammar.specs.declared.form.Form.TheVariants.{Ordered}
 use Rattle.lw_grammar.specs.Script.{reading_with, outcome_of}
 use Rattle.lw_script.specs.Answers.{input_meaning}
-use Rattle.lw_display.proofs.OrderFew.{order_few}
+use Rattle.lw_grammar.proofs.OrderFew.{order_few}
 use Rattle.lw_display.proofs.SceneSteps.{counted_ok}
 use Rattle.lw_display.proofs.scene.end_script.Goals as goal
 

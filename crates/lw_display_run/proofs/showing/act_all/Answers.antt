@@ -1,8 +1,7 @@
 use Rattle.std.proofs.Common.{◌≡◌, ◌+◌, ◌<◌, length, drop, pos, get_or, ap, sym, subst, ◌∙◌, arith}
 use Rattle.std.proofs.lemmas.List.{drop_more, drop_all}
 use Rattle.std.proofs.lemmas.List.Elements.{All-get_or}
-use Rattle.lw_screens.specs.Display.{acted_on}
-use Rattle.lw_screens.specs.Laws.{after_all}
+use Rattle.lw_screens.specs.Display.{acted_on, after_all}
 use Rattle.lw_screens.specs.declared.act.Act.{Act}
 use Rattle.lw_screens.specs.declared.act.Act.TheVariants.{Drag}
 use Rattle.lw_display_run.proofs.Fits.{after_act}

@@ -1,5 +1,5 @@
 use Rattle.std.proofs.Common.{◌≡◌, length, drop}
-use Rattle.lw_screens.specs.Laws.{after_all}
+use Rattle.lw_screens.specs.Display.{after_all}
 use Rattle.lw_display_run.proofs.showing.act_all.Given as goal
 
 abbrev pub invariant-loop-act : goal.invariant-loop-act

@@ -2,7 +2,7 @@ use Rattle.std.proofs.Common.{rules, [], ◌∷◌}
 use Rattle.std.specs.Fmt.{signed_decimal}
 use Rattle.std.proofs.lemmas.Result.{on_ok_weaker}
 use Rattle.lw_grammar.specs.Statements.{four}
-use Rattle.lw_canonical.specs.Spelling.{four_words}
+use Rattle.lw_canonical.specs.Spelling.{four_words, bounds_words}
 use Rattle.lw_print.proofs.Joined.{more_behind, word_more, bounds_behind}
 use Rattle.lw_print.proofs.Numbers.{number_read, four_written, placed_written}
 use Rattle.lw_print.proofs.calls.push_layer_and_four.Goals as goal
@@ -21,7 +21,7 @@ returns-in_ok-push_placed-in-ScrollRaster c = λ bitmaps.
     let call = c.in-ScrollRaster in
     rw (call.is, ← c.name_of-in-ScrollRaster.ensures)
     (on_ok_weaker c.push_spaced_bounds-in-ScrollRaster.result
-    (λ h. more_behind (c.name_of-in-ScrollRaster.result.now ∷ signed_decimal call.dx ∷ signed_decimal call.dy ∷ []) (four_words call.rect) c.args.out.now.items _ _
+    (λ h. more_behind (c.name_of-in-ScrollRaster.result.now ∷ signed_decimal call.dx ∷ signed_decimal call.dy ∷ []) (bounds_words call.rect) c.args.out.now.items _ _
     (placed_written _ _ _ _ _ _ _ (number_read call.dx (search rules)) (number_read call.dy (search rules)) c.in_ok-push_placed-in-ScrollRaster.ensures)
     (bounds_behind call.rect _ _ h))
     c.push_spaced_bounds-in-ScrollRaster.ensures.ok)

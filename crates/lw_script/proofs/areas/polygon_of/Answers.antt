@@ -8,4 +8,4 @@ pub unwrap-requires : goal.unwrap-requires
 unwrap-requires c =
     let points = c.args.points.now in
     let same = c.as_slice.ensures.value ∙ c.loop-point.invariant ∙ ap (map point_meaning) (take_all c.loop-point.point-index points (omega (arith, c.loop-point-test.false))) in
-    found_some c.in_ok-new.field-0 _ _ c.in_ok-new.ensures (polygon_made points c.as_slice.result.now same c.requires.range c.requires.least c.requires.most)
+    found_some c.in_ok-new.field-0 _ _ c.in_ok-new.ensures (polygon_made points c.as_slice.result.now same c.requires.range c.requires.count)
