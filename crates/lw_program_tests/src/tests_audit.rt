@@ -1,5 +1,5 @@
-use crate::answers::{answer_to, sink_of, source_of};
 use crate::tests_first::{FIRST_FILL, FIRST_FILL_REPORT};
+use lw_answers::{answer_to, sink_of, source_of};
 use lw_top::{Status, audit};
 use std::alloc::{AllocError, Global};
 use std::test::Fail;

@@ -1,5 +1,5 @@
-use crate::answers::{answer_to, answer_with_six, sink_of, source_of};
 use crate::tests_first::FIRST_FILL;
+use lw_answers::{answer_to, answer_with_six, sink_of, source_of};
 use lw_top::{Status, check, replay_cmd};
 use std::test::Fail;
 

@@ -1,5 +1,5 @@
-use crate::answers::{sink_of, source_of, word};
 use crate::tests_first::{FIRST_FILL, FIRST_FILL_REPORT};
+use lw_answers::{sink_of, source_of, word};
 use lw_locks::OpenGate;
 use lw_top::{Status, layers};
 use std::alloc::AllocError;

@@ -1,5 +1,5 @@
 //! The command `display`: scenes on a display, and lines that are refused.
-use crate::answers::{answer_to, sink_of, source_of};
+use lw_answers::{answer_to, sink_of, source_of};
 use lw_top::{Reason, Status, display_cmd};
 use std::alloc::{AllocError, Global};
 use std::test::Fail;

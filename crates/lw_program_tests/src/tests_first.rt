@@ -1,5 +1,5 @@
 //! A first script and its report, and the usage line.
-use crate::answers::{answer_to, sink_of, source_of, word};
+use lw_answers::{answer_to, sink_of, source_of, word};
 use lw_locks::OpenGate;
 use lw_top::{Status, layers};
 use std::test::Fail;

@@ -1,7 +1,7 @@
 //! The commands `ilbm` and `bitmap`: a screen as an ILBM file, and a file as a script's bitmap.
-use crate::answers::{answer_to, sink_of, source_of, word};
 use crate::tests_first::FIRST_FILL;
 use crate::tests_told::told;
+use lw_answers::{answer_to, sink_of, source_of, word};
 use lw_locks::OpenGate;
 use lw_top::{Status, bitmap_cmd, ilbm_cmd};
 use std::alloc::{AllocError, Global};

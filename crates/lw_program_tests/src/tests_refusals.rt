@@ -1,5 +1,5 @@
-use crate::answers::{answer_to, answer_with_six};
 use crate::tests_first::{FIRST_FILL, FIRST_FILL_REPORT};
+use lw_answers::{answer_to, answer_with_six};
 use lw_top::Status;
 use std::alloc::{AllocError, Global};
 use std::sync::Wait;

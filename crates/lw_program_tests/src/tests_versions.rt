@@ -1,6 +1,6 @@
 //! Scripts of version 2: larger screens, hooks that are replaced, and layers off the screen.
-use crate::answers::{answer_through, answer_with_six};
 use crate::tests_refusals::is_refused;
+use lw_answers::{answer_through, answer_with_six};
 use lw_backfill::{Backfill, Solid};
 use lw_locks::{Gate, Spot};
 use lw_top::Status;

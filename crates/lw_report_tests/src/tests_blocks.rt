@@ -1,6 +1,6 @@
 //! Blocks of pixels that are filled, moved and scrolled: cut by clip regions, by damage and by layers in front. The reports were worked out
 //! apart from this program, by a machine of its own that has one bitmap a layer.
-use crate::answers::answer_with_six;
+use lw_answers::answer_with_six;
 use lw_top::Status;
 use std::test::Fail;
 

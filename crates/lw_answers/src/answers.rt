@@ -1,11 +1,10 @@
 //! What the program answers to a command and a script, over streams in memory.
 ghost use Rattle.std.specs.Prelude.{◌<◌, vec_len};
 
-use crate::tests_told::told;
 use lw_backfill::{Backfill, Checker, Cycle, Solid};
 use lw_io::{MemSink, MemSource};
 use lw_locks::{Gate, OpenGate};
-use lw_top::Status;
+use lw_top::{Status, layers};
 use std::alloc::{AllocError, Global};
 use std::sync::Wait;
 use std::thread::Threads;
@@ -88,7 +87,7 @@ pub fn answer_through<R: Threads + Wait + AllocGlobal + Sync, G: Gate + Sync>(
     input.extend_from_slice(after)?;
     let mut source = source_of(alloc, input.as_slice(), 65_536, &[])?;
     let mut sink = sink_of(alloc, 131_072, 4096, &[])?;
-    let status = told(
+    let status = layers(
         rt,
         alloc,
         words.as_slice(),

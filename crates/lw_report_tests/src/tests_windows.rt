@@ -1,4 +1,4 @@
-use crate::answers::answer_with_six;
+use lw_answers::answer_with_six;
 use lw_top::Status;
 use std::test::Fail;
 

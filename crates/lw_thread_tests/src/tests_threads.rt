@@ -1,8 +1,8 @@
 //! `run` and `demo` with their tasks on threads: tasks that hold one another up, and the reports of many runs.
-use crate::answers::{answer_through, answer_with_six};
 use crate::tests_demo::{SEVEN, demo_seven};
 use crate::tests_realistic::REALISTIC;
 use crate::tests_spots::{Spots, soon_comes_to, waits_for};
+use lw_answers::{answer_through, answer_with_six};
 use lw_backfill::{Backfill, Solid};
 use lw_calls::Plan;
 use lw_grammar::Form;

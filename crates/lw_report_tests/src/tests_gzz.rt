@@ -1,5 +1,5 @@
 //! Windows of two layers: what `run` reports of a filled inner layer, and that their lines are canonical.
-use crate::answers::answer_to;
+use lw_answers::answer_to;
 use lw_top::Status;
 use std::test::Fail;
 

@@ -1,5 +1,5 @@
 //! Filled polygons with area patterns: what `run` reports of them, and their canonical text.
-use crate::answers::answer_to;
+use lw_answers::answer_to;
 use lw_top::Status;
 use std::test::Fail;
 

@@ -1,9 +1,7 @@
 //! The command `demo`: its six lines, and a sink that fails after a part of them.
-use crate::answers::{sink_of, source_of, word};
-use crate::tests_first::FIRST_FILL;
-use crate::tests_told::told;
+use lw_answers::{sink_of, source_of, word};
 use lw_locks::{Gate, OpenGate};
-use lw_top::Status;
+use lw_top::{Status, layers};
 use std::alloc::AllocError;
 use std::sync::Wait;
 use std::test::Fail;
@@ -20,9 +18,9 @@ pub fn demo_seven<R: Threads + Wait + AllocGlobal + Sync, G: Gate + Sync>(
 ) -> Result<(Status, Vec<u8>), AllocError> {
     let alloc = rt.alloc();
     let words = vec![in alloc; word(alloc, "demo")?, word(alloc, "7")?, word(alloc, "2")?]?;
-    let mut source = source_of(alloc, FIRST_FILL, 4096, &[])?;
+    let mut source = source_of(alloc, b"screen 1 1 1\n", 4096, &[])?;
     let mut sink = sink_of(alloc, room, 4096, &[])?;
-    let status = told(
+    let status = layers(
         rt,
         alloc,
         words.as_slice(),
