@@ -98,25 +98,25 @@ edits() {
 one() {
     case $1 in
     none)
-        try none lw_program_tests tests_threads
+        try none lw_thread_tests tests_threads
         try none lw_desk_tests tests_
         ;;
     one_lock_before_the_gate)
-        try "$1" lw_program_tests tests_threads a_fill_goes_on_while_another_layer_is_held other_calls_go_on_while_a_layer_is_held
+        try "$1" lw_thread_tests tests_threads a_fill_goes_on_while_another_layer_is_held other_calls_go_on_while_a_layer_is_held
         ;;
     one_lock_after_the_gate)
-        try "$1" lw_program_tests tests_threads
+        try "$1" lw_thread_tests tests_threads
         try "$1" lw_desk_tests tests_overlap fills_of_two_layers_are_made_at_once
         ;;
     two_locks_by_parity)
         try "$1" lw_desk_tests tests_overlap
-        try "$1" lw_program_tests tests_threads other_calls_go_on_while_a_layer_is_held
+        try "$1" lw_thread_tests tests_threads other_calls_go_on_while_a_layer_is_held
         ;;
     the_gate_is_told_before_the_lock)
-        try "$1" lw_program_tests tests_threads a_layer_is_held_by_one_call_at_a_time
+        try "$1" lw_thread_tests tests_threads a_layer_is_held_by_one_call_at_a_time
         ;;
     a_replay_beside_threads)
-        try "$1" lw_program_tests tests_threads a_hook_is_used_while_its_creation_is_made
+        try "$1" lw_thread_tests tests_threads a_hook_is_used_while_its_creation_is_made
         ;;
     exchanged_where_not_closed)
         test=a_desk_that_was_not_closed_is_as_it_was

@@ -7,7 +7,6 @@ mod DamageTold
 mod DemoScreens
 mod DisplayOutcomes
 mod LegalOrders
-mod OrderLength
 mod OutcomeLaws
 mod Outcomes
 mod PenCounts

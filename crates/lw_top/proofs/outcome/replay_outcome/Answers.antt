@@ -5,10 +5,10 @@ use Rattle.lw_machine.specs.Hook.{Hook}
 use Rattle.lw_grammar.specs.declared.form.Form.TheVariants.{Ordered}
 use Rattle.lw_grammar.specs.Lines.{lines}
 use Rattle.lw_grammar.specs.Script.{SpellsInput, IsFirstBadIn, reading_with}
+use Rattle.lw_grammar.proofs.OrderFew.{order_few}
 use Rattle.lw_script.specs.Answers.{input_meaning}
 use Rattle.lw_top.specs.declared.words.ScriptCommand.TheVariants.{Replay}
 use Rattle.lw_top.specs.Commands.{reads_with}
-use Rattle.lw_top.proofs.OrderLength.{order_few}
 use Rattle.lw_top.proofs.Outcomes.{outcome_of_script, refused_outcome}
 use Rattle.lw_top.proofs.outcome.replay_outcome.Goals as goal
 
