@@ -1,6 +1,7 @@
 -- Polygons and the pixels inside them (Graphics Primitives: AreaMove, AreaDraw, AreaEnd; which pixels are inside is this
 -- project's own rule).
-use Rattle.std.specs.Prelude.{◌≡◌, ℕ, nat_le, ◌%◌, ◌==◌, Bool, true, false, cond, ◌&&◌, List, [], ◌∷◌, ◌++◌, length, ℤ, pos, negsuc, ◌-ℤ◌, ◌*ℤ◌, int_lt, int_le}
+use Rattle.std.specs.Prelude.{◌≡◌, ℕ, nat_le, ◌%◌, ◌==◌, Bool, true, false, cond, ◌&&◌, List, [], ◌∷◌, ◌++◌, length, ℤ, pos}
+use Rattle.std.specs.Prelude.{negsuc, ◌-ℤ◌, ◌*ℤ◌, int_lt, int_le}
 use Rattle.std.specs.List.{list_all, filter}
 use Rattle.std.specs.Int.{int_min, int_max}
 use Rattle.lw_area.specs.declared.point.Point.{Point}
@@ -42,7 +43,8 @@ passes a b x y = (int_le a.y y && int_lt y b.y) && int_le ((y -ℤ a.y) *ℤ (b.
 -- an edge is left of a pixel: its ends are put in order by their rows, and one with both ends in one row is left of no
 -- pixel
 abbrev pub is_left : ℤ → ℤ → Side → Bool
-is_left x y s = cond (int_lt s.from.y s.to.y) (passes s.from s.to x y) (cond (int_lt s.to.y s.from.y) (passes s.to s.from x y) false)
+is_left x y s =
+    cond (int_lt s.from.y s.to.y) (passes s.from s.to x y) (cond (int_lt s.to.y s.from.y) (passes s.to s.from x y) false)
 
 -- the test holds of an odd number of these
 unfoldable pub holds_of_odd : {A : Type 0} → (A → Bool) → List A → Bool

@@ -1,6 +1,7 @@
 -- For private contracts.
 -- The edges that cross a row, the half rows that they begin, and the runs that are made of a row so far.
-use Rattle.std.specs.Prelude.{◌≡◌, ℕ, ◌+◌, length, reverse, Bool, false, ◌&&◌, cond, List, [], ◌∷◌, ℤ, pos, negsuc, ◌+ℤ◌, ◌-ℤ◌, ◌<ℤ◌, ◌≤ℤ◌, int_lt, int_le}
+use Rattle.std.specs.Prelude.{◌≡◌, ℕ, ◌+◌, length, reverse, Bool, false, ◌&&◌, cond, List, [], ◌∷◌, ℤ, pos, negsuc, ◌+ℤ◌, ◌-ℤ◌}
+use Rattle.std.specs.Prelude.{◌<ℤ◌, ◌≤ℤ◌, int_lt, int_le}
 use Rattle.std.specs.List.{All}
 use Rattle.lw_region.specs.Order.{IsInOrder}
 use Rattle.lw_region.specs.Bands.{Run, Band, put_row}

@@ -1,5 +1,6 @@
 //! Bands of rows from the lowest up, each with its runs.
-ghost use Rattle.std.specs.Prelude.{◌≡◌, ◌+◌, ◌≤◌, Bool, ◌&&◌, if◌then◌else◌, [], ◌∷◌, ◌++◌, reverse, ℤ, pos, ◌+ℤ◌, ◌≤ℤ◌, ◌<◌, ◌^◌, IfOk, OnOk};
+ghost use Rattle.std.specs.Prelude.{◌≡◌, ◌+◌, ◌≤◌, Bool, ◌&&◌, if◌then◌else◌, [], ◌∷◌, ◌++◌, reverse, ℤ, pos, ◌+ℤ◌, ◌≤ℤ◌, ◌<◌};
+ghost use Rattle.std.specs.Prelude.{◌^◌, IfOk, OnOk};
 ghost use Rattle.std.specs.Ordering.{int_eq};
 ghost use Rattle.lw_region.specs.Bands.{Run, Band, same_runs, band_rectangles};
 ghost use Rattle.lw_region.specs.Banded.{AreRuns, IsBand, AreBands, flat};

@@ -3,7 +3,8 @@ use Rattle.std.specs.Prelude.{◌≡◌, ℕ, Bool, false, ◌&&◌, ◌||◌, L
 use Rattle.lw_region.specs.Rectangle.{Rectangle, has_pixel}
 use Rattle.lw_region.specs.Bands.{covers}
 use Rattle.lw_calls.specs.declared.call.Call.{Call}
-use Rattle.lw_calls.specs.declared.call.Call.TheVariants.{Create, OpenWindow, Close, ToFront, ToBack, InFrontOf, MoveBy, SizeBy, SetBox}
+use Rattle.lw_calls.specs.declared.call.Call.TheVariants.{Create, OpenWindow, Close, ToFront, ToBack, InFrontOf, MoveBy, SizeBy}
+use Rattle.lw_calls.specs.declared.call.Call.TheVariants.{SetBox}
 use Rattle.lw_machine.specs.Screen.{bounds_have, screen_bounds}
 use Rattle.lw_layer.specs.View.{State, LiveView, CellView}
 use Rattle.lw_layer.specs.View as view

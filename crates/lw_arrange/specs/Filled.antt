@@ -24,15 +24,15 @@ keeps_if_live view.Closed c x y = false
 abbrev pub is_inside : LiveView → ℕ → ℕ → Bool
 is_inside c x y = in_inner (is_framed c.layer.window) (width c.bounds) (height c.bounds) x y
 
--- The pixel counts as kept before: a live layer kept it, and in a framed window whose size changes it isn't one of the old frame that
--- lies in the new inner rectangle.
+-- The pixel counts as kept before: a live layer kept it, and in a framed window whose size changes it isn't one of the old frame
+-- that lies in the new inner rectangle.
 abbrev pub counts_if_live : State → LiveView → LiveView → ℕ → ℕ → Bool
 counts_if_live view.Unopened c to x y = false
 counts_if_live view.Live c to x y = keeps c x y && (is_inside c x y || not (is_framed c.layer.window && is_inside to x y))
 counts_if_live view.Closed c to x y = false
 
--- The layer pixels that an arrangement fills, which makes one cell of the other: those that the layer keeps afterwards and that don't
--- count as kept before, and none of a super-bitmap layer.
+-- The layer pixels that an arrangement fills, which makes one cell of the other: those that the layer keeps afterwards and that
+-- don't count as kept before, and none of a super-bitmap layer.
 abbrev pub gains : CellView → CellView → ℕ → ℕ → Bool
 gains from to x y =
     not (is_super to.live.layer.kind)

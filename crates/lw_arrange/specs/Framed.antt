@@ -1,5 +1,5 @@
--- Whether an arrangement fills a pixel of a window's frame (the manual's Intuition Windows chapter; that the frame is painted again
--- then is this project's own).
+-- Whether an arrangement fills a pixel of a window's frame (the manual's Intuition Windows chapter; that the frame is painted
+-- again then is this project's own).
 use Rattle.std.specs.Prelude.{◌≡◌, Bool, true, false, ◌&&◌, List, ℤ}
 use Rattle.lw_region.specs.Rectangle.{Rectangle, has_pixel, width, height}
 use Rattle.lw_region.specs.Bands.{covers}

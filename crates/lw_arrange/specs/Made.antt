@@ -11,7 +11,8 @@ use Rattle.lw_arrange.specs.declared.preparing.Becomes.TheVariants.{Stays, Close
 -- The one cell becomes the other by what was prepared.
 abbrev pub IsPrepared : CellView → CellView → Becomes → Type 0
 IsPrepared from to Stays = to ≡ from
-IsPrepared from to Closes = (from.state ≡ view.Live) × (to ≡ record { number = from.number; state = view.Closed; live = no_layer })
+IsPrepared from to Closes =
+    (from.state ≡ view.Live) × (to ≡ record { number = from.number; state = view.Closed; live = no_layer })
 IsPrepared from to (Opens d) =
     (from.state ≡ view.Live → ⊥) × IsLiveDraft d × (to ≡ record { number = from.number; state = view.Live; live = live_view d })
 IsPrepared from to (Changes k) =

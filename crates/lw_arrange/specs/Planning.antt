@@ -6,7 +6,8 @@ use Rattle.std.specs.List.{slice_index_or, slice_set}
 use Rattle.lw_region.specs.Rectangle.{Rectangle}
 use Rattle.lw_calls.specs.declared.make.Make.{Make}
 use Rattle.lw_calls.specs.declared.call.Call.{Call}
-use Rattle.lw_calls.specs.declared.call.Call.TheVariants.{Create, OpenWindow, Close, ToFront, ToBack, InFrontOf, MoveBy, SizeBy, SetBox, Activate}
+use Rattle.lw_calls.specs.declared.call.Call.TheVariants.{Create, OpenWindow, Close, ToFront, ToBack, InFrontOf, MoveBy, SizeBy}
+use Rattle.lw_calls.specs.declared.call.Call.TheVariants.{SetBox, Activate}
 use Rattle.lw_calls.specs.declared.reply.Reply.{Reply}
 use Rattle.lw_calls.specs.declared.reply.Reply.TheVariants.{NotOpen, AlreadyOpen, NotWindow, NotOwner, Backdrop, OutOfBounds}
 use Rattle.lw_machine.specs.Reveal.{has_bounds}
@@ -140,7 +141,8 @@ abbrev pub with_back : Stack → List (Option Look) → ℕ → Stack
 with_back v looks slot = with_order v (put_before (is_backdrop_at looks) slot (without slot v.front_to_back))
 
 abbrev pub with_pair : Stack → ℕ → ℕ → Stack
-with_pair v slot other = if slot == other then v else with_order v (put_before (λ t. t == other) slot (without slot v.front_to_back))
+with_pair v slot other =
+    if slot == other then v else with_order v (put_before (λ t. t == other) slot (without slot v.front_to_back))
 
 abbrev pub with_activated : Stack → ℕ → Stack
 with_activated v slot = record v { active = Some slot }

@@ -67,15 +67,16 @@ shown_at a s = shown_list a.stack s
 
 -- the cell after a planned arrangement
 abbrev pub cell_after : ArrangementView → CellView → CellView
-cell_after a c = becomes (created_by a.task a.call) a.stack.sizes.depth (shown_at a c.number) c (bounds_at a.stack.bounds c.number)
+cell_after a c =
+    becomes (created_by a.task a.call) a.stack.sizes.depth (shown_at a c.number) c (bounds_at a.stack.bounds c.number)
 
 -- the classes for which a new window asks, if the layer is one, are of the five that there are
 abbrev pub HasClasses : Option Window → Type 0
 HasClasses None = Unit {0}
 HasClasses (Some w) = w.classes < 32
 
--- A layer may be created with these bounds: they and an own bitmap have sizes for planes, and a framed window has room for its frame
--- and no bitmap of its own.
+-- A layer may be created with these bounds: they and an own bitmap have sizes for planes, and a framed window has room for its
+-- frame and no bitmap of its own.
 pub record MayBeNew (n : Created) (depth : ℕ) (bounds : Rectangle) : Type 0 where
   pub size : IsNewSize n.make depth bounds
   pub frameless : is_super n.make.kind ≡ true → is_framed n.window ≡ false

@@ -15,8 +15,8 @@ use Rattle.lw_stack.specs.Stack.{bounds_at}
 use Rattle.lw_arrange.specs.Arrangements.{ArrangementView}
 use Rattle.lw_arrange.specs.Prepared.{Created, created_by, shown_at, without_layer}
 
--- The layer of the slot s across a planned arrangement, after which it has the bounds r: its bounds before, if it was live, and what
--- was visible of it then.
+-- The layer of the slot s across a planned arrangement, after which it has the bounds r: its bounds before, if it was live, and
+-- what was visible of it then.
 abbrev pub across_arrangement : ArrangementView → ℕ → Option Rectangle → LiveView → Rectangle → Across
 across_arrangement a s bounds c r = record {
   bounds = bounds;
@@ -53,7 +53,8 @@ new_of (Some n) depth h = new_layer depth n.make h n.window
 
 -- the slot after it, by what it holds before and its bounds afterwards; a new layer takes this hook, and any other keeps its own
 abbrev pub settled_with : List (List ℕ) → ArrangementView → Option Hook → CellView → Rectangle → State → CellView
-settled_with glyphs a h c r view.Live = record { number = c.number; state = view.Live; live = settled_live glyphs a c.number c.live r }
+settled_with glyphs a h c r view.Live =
+    record { number = c.number; state = view.Live; live = settled_live glyphs a c.number c.live r }
 settled_with glyphs a h c r idle = record {
   number = c.number;
   state = view.Live;

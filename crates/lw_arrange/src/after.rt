@@ -5,7 +5,8 @@ ghost use Rattle.lw_calls.specs.Limits.{call_fits};
 ghost use Rattle.lw_machine.specs.Arrangement.{bounds_of, active_without, without};
 ghost use Rattle.lw_stack.specs.Stack.{bounds_at, stack_of};
 ghost use Rattle.lw_arrange.specs.Places.{IsRect, change_fits, make_spans};
-ghost use Rattle.lw_arrange.specs.Planning.{with_new, without_slot, with_front, with_back, with_pair, with_change, with_activated, with_order, stack_after, changed_bounds, IsChangeRect, HasNewRect};
+ghost use Rattle.lw_arrange.specs.Planning.{with_new, without_slot, with_front, with_back, with_pair, with_change};
+ghost use Rattle.lw_arrange.specs.Planning.{with_activated, with_order, stack_after, changed_bounds, IsChangeRect, HasNewRect};
 
 use crate::change::Change;
 use crate::order::{place_new, put_before_backdrops, put_before_one, put_first, without};

@@ -33,9 +33,26 @@ impl Model for Arrangement {
 
     ghost Value = { ArrangementView };
 
-    ghost view = { λ a. record { task = a.task; call = a.call; stack = stack_of a.sizes a.after; area = a.area; shown = a.shown.sets.items; rest = a.shown.rest; pieces = a.pieces.items } };
+    ghost view = { λ a. record {
+      task = a.task;
+      call = a.call;
+      stack = stack_of a.sizes a.after;
+      area = a.area;
+      shown = a.shown.sets.items;
+      rest = a.shown.rest;
+      pieces = a.pieces.items;
+    } };
 
-    ghost invariant = { λ a. IsArrangement (record { task = a.task; call = a.call; stack = stack_of a.sizes a.after; area = a.area; shown = a.shown.sets.items; rest = a.shown.rest; pieces = a.pieces.items }) };
+    ghost invariant = { λ a. IsArrangement
+        (record {
+          task = a.task;
+          call = a.call;
+          stack = stack_of a.sizes a.after;
+          area = a.area;
+          shown = a.shown.sets.items;
+          rest = a.shown.rest;
+          pieces = a.pieces.items;
+        }) };
 }
 
 impl Arrangement {

@@ -9,7 +9,8 @@ ghost use Rattle.lw_layer.specs.View.{with_live};
 ghost use Rattle.lw_layer.specs.Pieces.{HasFrameRoom};
 ghost use Rattle.lw_stack.specs.Stack.{bounds_at};
 ghost use Rattle.lw_reveal.specs.Changed.{carried_to, MayHave};
-ghost use Rattle.lw_arrange.specs.Prepared.{created_by, kind_of, created_live, shown_at, with_bounds, cell_after, IsCreation, MayOpen, MayBecome, MayPrepare};
+ghost use Rattle.lw_arrange.specs.Prepared.{created_by, kind_of, created_live, shown_at, with_bounds, cell_after, IsCreation};
+ghost use Rattle.lw_arrange.specs.Prepared.{MayOpen, MayBecome, MayPrepare};
 ghost use Rattle.lw_arrange.specs.Areas.{IsShownElsewhere};
 ghost use Rattle.lw_arrange.specs.Filled.{AreGained};
 ghost use Rattle.lw_arrange.specs.Framed.{IsFrameGained, has_corners};
@@ -22,11 +23,11 @@ use lw_region::{Rect, Region, clear_region};
 use lw_reveal::counted_region;
 use std::alloc::{AllocError, Global};
 
-/// The layer pixels that the arrangement fills, with the hook of the slot's layer or else with pen 0: those that it keeps afterwards
-/// and that don't count as kept before, and none of a super-bitmap layer or of a slot that isn't live afterwards. In a framed window
-/// whose size changes the pixels of the old frame that lie in the new inner rectangle don't count (the manual's Layers Library
-/// chapter: backfill hooks; which pixels a layer keeps, and which count, is this project's own). They are in layer coordinates.
-/// Outside the arrangement's area the cell has to show what the plan says. It fails only when out of memory.
+/// The layer pixels that the arrangement fills, with the hook of the slot's layer or else with pen 0: those that it keeps
+/// afterwards and that don't count as kept before, and none of a super-bitmap layer or of a slot that isn't live afterwards. In a
+/// framed window whose size changes the pixels of the old frame that lie in the new inner rectangle don't count (the manual's
+/// Layers Library chapter: backfill hooks; which pixels a layer keeps, and which count, is this project's own). They are in layer
+/// coordinates. Outside the arrangement's area the cell has to show what the plan says. It fails only when out of memory.
 pub fn gained(alloc: Global, cell: &Cell, arrangement: &Arrangement) -> Result<Region, AllocError>
     requires slot { cell.now.number < arrangement.now.stack.sizes.slots }
     requires may { MayPrepare arrangement.now cell.now }
@@ -49,9 +50,13 @@ fn gained_within(
 ) -> Result<Region, AllocError>
     requires slot { cell.now.number < arrangement.now.stack.sizes.slots }
     requires bounds { bounds_at arrangement.now.stack.bounds cell.now.number ≡ Some bounds.now }
-    requires may { MayBecome (created_by arrangement.now.task arrangement.now.call) arrangement.now.stack.sizes.depth bounds.now (shown_at arrangement.now cell.now.number) cell.now cell.now.state }
+    requires may { MayBecome (created_by arrangement.now.task arrangement.now.call) arrangement.now.stack.sizes.depth bounds.now
+        (shown_at arrangement.now cell.now.number) cell.now cell.now.state }
     requires elsewhere { IsShownElsewhere arrangement.now cell.now }
-    ensures { IfOk result (λ region. AreGained cell.now (with_bounds (created_by arrangement.now.task arrangement.now.call) arrangement.now.stack.sizes.depth bounds.now (shown_at arrangement.now cell.now.number) cell.now cell.now.state) region) }
+    ensures { IfOk result
+        (λ region. AreGained cell.now
+        (with_bounds (created_by arrangement.now.task arrangement.now.call) arrangement.now.stack.sizes.depth bounds.now
+        (shown_at arrangement.now cell.now.number) cell.now cell.now.state) region) }
 {
     // Reading the sizes tells the proof what holds of the plan.
     let _ = arrangement.sizes();
@@ -108,7 +113,9 @@ fn gained_more(
     requires bounds { bounds_at arrangement.now.stack.bounds cell.now.number ≡ Some bounds.now }
     requires may { MayHave cell.now.live bounds.now (shown_at arrangement.now cell.now.number) }
     requires elsewhere { IsShownElsewhere arrangement.now cell.now }
-    ensures { IfOk result (λ region. AreGained cell.now (with_live (λ c. carried_to bounds.now (shown_at arrangement.now cell.now.number) c) cell.now) region) }
+    ensures { IfOk result
+        (λ region. AreGained cell.now
+        (with_live (λ c. carried_to bounds.now (shown_at arrangement.now cell.now.number) c) cell.now) region) }
 {
     let Some(layer) = cell.layer() else {
         unreachable!();
@@ -123,8 +130,8 @@ fn gained_more(
     Ok(gained)
 }
 
-/// Whether some of these pixels that a window with these bounds gains, in layer coordinates, lies in its frame; none does of a window
-/// without one (the manual's Intuition Windows chapter; that such a frame is painted again is this project's own).
+/// Whether some of these pixels that a window with these bounds gains, in layer coordinates, lies in its frame; none does of a
+/// window without one (the manual's Intuition Windows chapter; that such a frame is painted again is this project's own).
 pub fn gains_frame(gained: &Region, framed: bool, bounds: &Rect) -> bool
     requires wide { width bounds.now ≤ 2048 }
     requires high { height bounds.now ≤ 2048 }

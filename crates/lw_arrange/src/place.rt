@@ -1,8 +1,10 @@
 ghost use Rattle.std.specs.Prelude.{◌≡◌, ◌≤◌, ◌&&◌, true, Some, pos, negsuc, ◌+ℤ◌, ◌-ℤ◌, ◌≤ℤ◌, IsTrue};
 ghost use Rattle.lw_machine.specs.Shapes.{box_at};
 ghost use Rattle.lw_calls.specs.Limits.{is_coordinate, coordinates_fit};
-ghost use Rattle.lw_machine.specs.Arrangement.{is_on_screen, has_coordinates, is_no_larger, may_lie_at, is_at_least, portion_fits};
-ghost use Rattle.lw_arrange.specs.Places.{rectangle_of, axis_on, axis_within, axis_has, axis_shows, frame_has_room, bits_suffice, may_lie, span_fits, IsRect};
+ghost use Rattle.lw_machine.specs.Arrangement.{is_on_screen, has_coordinates, is_no_larger, may_lie_at, is_at_least};
+ghost use Rattle.lw_machine.specs.Arrangement.{portion_fits};
+ghost use Rattle.lw_arrange.specs.Places.{rectangle_of, axis_on, axis_within, axis_has, axis_shows, frame_has_room};
+ghost use Rattle.lw_arrange.specs.Places.{bits_suffice, may_lie, span_fits, IsRect};
 ghost use Rattle.lw_region.specs.Rectangle.{IsWord};
 
 use lw_calls::{Kind, Sizes};

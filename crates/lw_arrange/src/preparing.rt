@@ -11,7 +11,8 @@ ghost use Rattle.lw_layer.specs.View.{CellView, with_live};
 ghost use Rattle.lw_layer.specs.Drafts.{IsState, state_of, live_of, window_of, room_of};
 ghost use Rattle.lw_stack.specs.Stack.{bounds_at};
 ghost use Rattle.lw_reveal.specs.Changed.{carried_to, MayHave};
-ghost use Rattle.lw_arrange.specs.Prepared.{created_by, created_live, without_layer, with_bounds, shown_at, cell_after, MayOpen, MayBecome, MayPrepare};
+ghost use Rattle.lw_arrange.specs.Prepared.{created_by, created_live, without_layer, with_bounds, shown_at, cell_after};
+ghost use Rattle.lw_arrange.specs.Prepared.{MayOpen, MayBecome, MayPrepare};
 ghost use Rattle.lw_arrange.specs.Areas.{IsShownElsewhere};
 ghost use Rattle.lw_arrange.specs.Made.{IsPrepared};
 ghost use Rattle.lw_arrange.specs.Exchanged.{HasPieces};
@@ -112,9 +113,13 @@ fn with_bounds(
 ) -> Result<Becomes, AllocError>
     requires slot { cell.now.number < arrangement.now.stack.sizes.slots }
     requires bounds { bounds_at arrangement.now.stack.bounds cell.now.number ≡ Some bounds.now }
-    requires may { MayBecome (created_by arrangement.now.task arrangement.now.call) arrangement.now.stack.sizes.depth bounds.now (shown_at arrangement.now cell.now.number) cell.now cell.now.state }
+    requires may { MayBecome (created_by arrangement.now.task arrangement.now.call) arrangement.now.stack.sizes.depth bounds.now
+        (shown_at arrangement.now cell.now.number) cell.now cell.now.state }
     requires elsewhere { IsShownElsewhere arrangement.now cell.now }
-    ensures { IfOk result (λ becomes. IsPrepared cell.now (with_bounds (created_by arrangement.now.task arrangement.now.call) arrangement.now.stack.sizes.depth bounds.now (shown_at arrangement.now cell.now.number) cell.now cell.now.state) becomes) }
+    ensures { IfOk result
+        (λ becomes. IsPrepared cell.now
+        (with_bounds (created_by arrangement.now.task arrangement.now.call) arrangement.now.stack.sizes.depth bounds.now
+        (shown_at arrangement.now cell.now.number) cell.now cell.now.state) becomes) }
 {
     // Reading the sizes tells the proof what holds of the plan.
     let _ = arrangement.sizes();
@@ -201,7 +206,9 @@ fn changed(
     requires bounds { bounds_at arrangement.now.stack.bounds cell.now.number ≡ Some bounds.now }
     requires may { MayHave cell.now.live bounds.now (shown_at arrangement.now cell.now.number) }
     requires elsewhere { IsShownElsewhere arrangement.now cell.now }
-    ensures { IfOk result (λ becomes. IsPrepared cell.now (with_live (λ c. carried_to bounds.now (shown_at arrangement.now cell.now.number) c) cell.now) becomes) }
+    ensures { IfOk result
+        (λ becomes. IsPrepared cell.now
+        (with_live (λ c. carried_to bounds.now (shown_at arrangement.now cell.now.number) c) cell.now) becomes) }
 {
     let Some(layer) = cell.layer() else {
         unreachable!();

@@ -4,7 +4,8 @@ ghost use Rattle.lw_calls.specs.Limits.{call_fits};
 ghost use Rattle.lw_machine.specs.Arrangement.{bounds_of};
 ghost use Rattle.lw_stack.specs.Stack.{bounds_at};
 ghost use Rattle.lw_arrange.specs.Places.{change_fits, may_lie, needs_of, new_needs, make_spans};
-ghost use Rattle.lw_arrange.specs.Planning.{live_at, is_free_at, is_of_other, may_change, creation_refused, closing_refused, reordering_refused, pair_refused, change_refused, activation_refused, refused};
+ghost use Rattle.lw_arrange.specs.Planning.{live_at, is_free_at, is_of_other, may_change, creation_refused, closing_refused};
+ghost use Rattle.lw_arrange.specs.Planning.{reordering_refused, pair_refused, change_refused, activation_refused, refused};
 
 use crate::change::Change;
 use crate::place::{Needs, edges_of_box, may_have};

@@ -125,7 +125,9 @@ fn split_all(
     requires word { seat.word ≡ order.now.word }
     requires roles { (t : ℕ) → t < tasks → Contains seat.roles (Role.Task t) }
     requires new { seat.history ≡ [] }
-    ensures { IfOk result (λ jobs. All (λ j. (j.seat.word ≡ order.now.word) × Contains j.seat.roles (Role.Task j.task) × (count_of j.task j.seat.history ≡ 0)) jobs.items) }
+    ensures { IfOk result
+        (λ jobs. All (λ j. (j.seat.word ≡ order.now.word) × Contains j.seat.roles (Role.Task j.task)
+        × (count_of j.task j.seat.history ≡ 0)) jobs.items) }
 {
     let mut jobs = Vec::with_capacity(alloc, tasks as usize)?;
     for task in 0..tasks {
@@ -145,7 +147,8 @@ fn eight_threads_draw_each_number_once(rt: HostRuntime) -> Result<(), Fail> {
         &rt,
         jobs,
         &|job: Job| -> Result<Vec<u64>, AllocError>
-            requires { (job.seat.word ≡ shared.now.word) × Contains job.seat.roles (Role.Task job.task) × (count_of job.task job.seat.history ≡ 0) }
+            requires { (job.seat.word ≡ shared.now.word) × Contains job.seat.roles (Role.Task job.task)
+                × (count_of job.task job.seat.history ≡ 0) }
         {
             let Job { task, seat } = job;
             stamp_many(alloc, shared, seat, task, 100)

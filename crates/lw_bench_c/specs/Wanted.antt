@@ -6,7 +6,8 @@ use Rattle.lw_region.specs.Pixels.{pixels_of, union, intersection, difference, s
 use Rattle.lw_region.specs.Bands.{bands}
 use Rattle.lw_region.specs.Regions.{rectangle_set}
 use Rattle.lw_bench_c.specs.declared.operation.Operation.{Operation}
-use Rattle.lw_bench_c.specs.declared.operation.Operation.TheVariants.{Copied, Union, Intersection, SymmetricDifference, Difference, RectangleDifference}
+use Rattle.lw_bench_c.specs.declared.operation.Operation.TheVariants.{Copied, Union, Intersection, SymmetricDifference}
+use Rattle.lw_bench_c.specs.declared.operation.Operation.TheVariants.{Difference, RectangleDifference}
 
 -- the rectangles of what is made of the first operand, with the second and the hole
 abbrev pub wanted : Operation → List Rectangle → List Rectangle → Rectangle → List Rectangle

@@ -41,9 +41,9 @@ pub extern "C" fn lw_bench_regions(
     }
 }
 
-/// How many rectangles an area has. Shape 0 is a triangle of some 10,000 pixels, 1 an arrowhead of as many, and 2 a polygon of 32 points
-/// over 6,000 rows, which `seed` makes; none has a pattern. They are worked out `repetitions` times; for none the answer is 0. It is -1
-/// for an unknown shape and where memory runs out.
+/// How many rectangles an area has. Shape 0 is a triangle of some 10,000 pixels, 1 an arrowhead of as many, and 2 a polygon of 32
+/// points over 6,000 rows, which `seed` makes; none has a pattern. They are worked out `repetitions` times; for none the answer
+/// is 0. It is -1 for an unknown shape and where memory runs out.
 #[unsafe(no_mangle)]
 pub extern "C" fn lw_bench_areas(alloc: Global, shape: u32, repetitions: u32, seed: u32) -> i64
     ensures least { negsuc 0 ≤ℤ result }
@@ -55,9 +55,9 @@ pub extern "C" fn lw_bench_areas(alloc: Global, shape: u32, repetitions: u32, se
     }
 }
 
-/// How many bytes the ILBM file of a picture of 2048 by 2048 pixels with 8 planes has, or, where `reads` isn't 0, how many rows the picture
-/// read from it has. Kind 0 has pen 0 all over, 1 squares of 32 by 32 pixels, and any other noise, which `seed` begins. It is written, or
-/// read, `repetitions` times; for none the answer is 0. It is -1 where memory runs out.
+/// How many bytes the ILBM file of a picture of 2048 by 2048 pixels with 8 planes has, or, where `reads` isn't 0, how many rows
+/// the picture read from it has. Kind 0 has pen 0 all over, 1 squares of 32 by 32 pixels, and any other noise, which `seed`
+/// begins. It is written, or read, `repetitions` times; for none the answer is 0. It is -1 where memory runs out.
 #[unsafe(no_mangle)]
 pub extern "C" fn lw_bench_pictures(
     alloc: Global,
@@ -95,9 +95,9 @@ pub extern "C" fn lw_bench_row(
 /// whose left edge is 3 columns off a byte's; 1 is two lines, from the corner to column 99 and row `side` and back; 2, 3 and 4
 /// scroll that square by (1, 0), (0, 1) and (-7, -3); 5, 6 and 7 blit a square, 3 columns to the right in its bytes, from a
 /// bitmap, from the layer behind and within the layer; 9, 10 and 11 fill that square where four windows lie over the layer, where
-/// windows cut it into 64 clip rectangles, and in a clip region of 128 rectangles; 12 is two steep lines, from the corner to column
-/// `side` and row 99 and back; 13 fills the square under COMPLEMENT; any other is a text of 80 letters with the call that puts the
-/// cursor before it. It is -1 where the square isn't one and where memory runs out.
+/// windows cut it into 64 clip rectangles, and in a clip region of 128 rectangles; 12 is two steep lines, from the corner to
+/// column `side` and row 99 and back; 13 fills the square under COMPLEMENT; any other is a text of 80 letters with the call that
+/// puts the cursor before it. It is -1 where the square isn't one and where memory runs out.
 #[unsafe(no_mangle)]
 pub extern "C" fn lw_bench_drawing(
     alloc: Global,

@@ -1,6 +1,7 @@
 -- For private contracts.
 -- What a blit makes of a layer's bits (the manual's Graphics Primitives chapter).
-use Rattle.std.specs.Prelude.{◌≡◌, ℕ, ◌+◌, ◌-◌, ◌<◌, Bool, true, false, nat_lt, ◌==◌, not, ◌&&◌, ◌||◌, if◌then◌else◌, List, [], ℤ, pos, negsuc, ◌+ℤ◌, ◌-ℤ◌, ◌≤ℤ◌, int_le}
+use Rattle.std.specs.Prelude.{◌≡◌, ℕ, ◌+◌, ◌-◌, ◌<◌, Bool, true, false, nat_lt, ◌==◌, not, ◌&&◌, ◌||◌, if◌then◌else◌, List, []}
+use Rattle.std.specs.Prelude.{ℤ, pos, negsuc, ◌+ℤ◌, ◌-ℤ◌, ◌≤ℤ◌, int_le}
 use Rattle.std.specs.Int.{bit_at}
 use Rattle.std.specs.List.{slice_index_or}
 use Rattle.lw_planes.specs.Row.{bit_of, row_bit}
@@ -77,12 +78,15 @@ planes_before mask k inside p i j = nat_lt p k && in_planes mask inside p i j
 -- The planes of a mask before one of them were read, from this place of a layer on, and which pixels it keeps.
 pub record AreRead (c : LiveView) (mask k : ℕ) (x y : ℤ) (n : ℕ) (r : SourceRows) : Type 0 where
   pub pens : (p i : ℕ) → p < k → (bit_at mask p == 1) ≡ true → i < n → row_bit (plane_of r p) i ≡ kept_bit c p (x +ℤ pos i) y
-  pub kept : (p i : ℕ) → p < k → (bit_at mask p == 1) ≡ true → i < n → row_bit r.kept i ≡ bit_of (holds_at (λ u v. keeps c u v) (x +ℤ pos i) y)
+  pub kept : (p i : ℕ) → p < k → (bit_at mask p == 1) ≡ true → i < n
+      → row_bit r.kept i ≡ bit_of (holds_at (λ u v. keeps c u v) (x +ℤ pos i) y)
 
 -- The rows are the sources of some columns of a row, in the first planes that the mask has.
 pub record AreSources (c : LiveView) (t : Transfer) (mask planes y from end : ℕ) (r : SourceRows) : Type 0 where
-  pub pens : (p i : ℕ) → p < planes → (bit_at mask p == 1) ≡ true → i < end - from → row_bit (plane_of r p) i ≡ source_bit c t p (from + i) y
-  pub kept : (p i : ℕ) → p < planes → (bit_at mask p == 1) ≡ true → i < end - from → row_bit r.kept i ≡ bit_of (has_source c t (from + i) y)
+  pub pens : (p i : ℕ) → p < planes → (bit_at mask p == 1) ≡ true → i < end - from
+      → row_bit (plane_of r p) i ≡ source_bit c t p (from + i) y
+  pub kept : (p i : ℕ) → p < planes → (bit_at mask p == 1) ≡ true → i < end - from
+      → row_bit r.kept i ≡ bit_of (has_source c t (from + i) y)
   pub all : (i : ℕ) → i < end - from → (r.all || row_bit r.kept i == 1) ≡ (t.clears || row_bit r.kept i == 1)
 
 -- the places and sizes of a blit are far from the ends of the numbers
@@ -117,8 +121,11 @@ keeps_source source a x y = holds_at (λ i j. keeps source i j) (source_column a
 
 -- the drawable pixels of some rows and columns whose sources a layer keeps, in the planes of a mask
 abbrev pub taken : ℕ → LiveView → LiveView → Area → ℕ → ℕ → ℕ → ℕ → ℕ → ℕ → ℕ → Bool
-taken mask c source a top bottom from end p i j = bit_at mask p == 1 && (in_rows c top bottom from end i j && keeps_source source a i j)
+taken mask c source a top bottom from end p i j =
+    bit_at mask p == 1 && (in_rows c top bottom from end i j && keeps_source source a i j)
 
 -- a block has the source of a pixel
 abbrev pub leads_to : Block → Area → ℕ → ℕ → Bool
-leads_to b a x y = (int_le (pos b.x) (source_column a x) && not (int_le (pos (b.x + b.run.len)) (source_column a x))) && (int_le (pos b.y) (source_row a y) && not (int_le (pos (b.y + b.rows)) (source_row a y)))
+leads_to b a x y =
+    (int_le (pos b.x) (source_column a x) && not (int_le (pos (b.x + b.run.len)) (source_column a x)))
+    && (int_le (pos b.y) (source_row a y) && not (int_le (pos (b.y + b.rows)) (source_row a y)))

@@ -23,7 +23,8 @@ pub(crate) fn bands_down(
     requires right { columns.end ≤ 2048 }
     requires near { AreNear transfer }
     requires order { pos 0 ≤ℤ transfer.dy }
-    ensures { layer.new ≡ drawn (masked mask layer.old rows.from rows.end columns.from columns.end) (from_layer layer.old transfer) layer.old }
+    ensures { layer.new
+        ≡ drawn (masked mask layer.old rows.from rows.end columns.from columns.end) (from_layer layer.old transfer) layer.old }
 {
     // Reading this tells the proof that the layer has only pens of its depth.
     let _ = layer.depth();
@@ -48,7 +49,8 @@ pub(crate) fn bands_up(
     requires right { columns.end ≤ 2048 }
     requires near { AreNear transfer }
     requires order { transfer.dy ≤ℤ pos 0 }
-    ensures { layer.new ≡ drawn (masked mask layer.old rows.from rows.end columns.from columns.end) (from_layer layer.old transfer) layer.old }
+    ensures { layer.new
+        ≡ drawn (masked mask layer.old rows.from rows.end columns.from columns.end) (from_layer layer.old transfer) layer.old }
 {
     // As above.
     let _ = layer.depth();
@@ -66,7 +68,8 @@ fn transfer_band(layer: &mut Layer, rows: Places, columns: Places, transfer: Tra
     requires bottom { rows.end ≤ 2048 }
     requires right { columns.end ≤ 2048 }
     requires near { AreNear transfer }
-    ensures { layer.new ≡ drawn (masked mask layer.old rows.from rows.end columns.from columns.end) (from_layer layer.old transfer) layer.old }
+    ensures { layer.new
+        ≡ drawn (masked mask layer.old rows.from rows.end columns.from columns.end) (from_layer layer.old transfer) layer.old }
 {
     if transfer.dx >= 0 {
         pieces_right(layer, rows, columns, transfer, mask);
@@ -81,7 +84,8 @@ fn pieces_right(layer: &mut Layer, rows: Places, columns: Places, transfer: Tran
     requires right { columns.end ≤ 2048 }
     requires near { AreNear transfer }
     requires order { pos 0 ≤ℤ transfer.dx }
-    ensures { layer.new ≡ drawn (masked mask layer.old rows.from rows.end columns.from columns.end) (from_layer layer.old transfer) layer.old }
+    ensures { layer.new
+        ≡ drawn (masked mask layer.old rows.from rows.end columns.from columns.end) (from_layer layer.old transfer) layer.old }
 {
     // As above.
     let _ = layer.depth();
@@ -100,7 +104,8 @@ fn pieces_left(layer: &mut Layer, rows: Places, columns: Places, transfer: Trans
     requires right { columns.end ≤ 2048 }
     requires near { AreNear transfer }
     requires order { transfer.dx ≤ℤ pos 0 }
-    ensures { layer.new ≡ drawn (masked mask layer.old rows.from rows.end columns.from columns.end) (from_layer layer.old transfer) layer.old }
+    ensures { layer.new
+        ≡ drawn (masked mask layer.old rows.from rows.end columns.from columns.end) (from_layer layer.old transfer) layer.old }
 {
     // As above.
     let _ = layer.depth();

@@ -74,7 +74,8 @@ fn moved_places(places: Places, by: i32) -> Option<Places>
 // Moves a block, plane by plane.
 pub(crate) fn move_planes(layer: &mut Layer, blocks: Move, transfer: Transfer, mask: u8)
     requires blocks { IsMove layer.old transfer blocks }
-    ensures { layer.new ≡ drawn (λ p i j. bit_at mask p == 1 && in_block blocks.to i j) (from_layer layer.old transfer) layer.old }
+    ensures { layer.new
+        ≡ drawn (λ p i j. bit_at mask p == 1 && in_block blocks.to i j) (from_layer layer.old transfer) layer.old }
 {
     for plane in 0..layer.depth() {
         if has_bit(mask, plane) {

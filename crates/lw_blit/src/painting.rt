@@ -25,7 +25,8 @@ pub(crate) fn paint_row(
 )
     requires row { y < 65536 }
     requires right { columns.end ≤ 2048 }
-    ensures { layer.new ≡ drawn (masked mask layer.old y (y + 1) columns.from columns.end) (from_rows minterm rows.now columns.from) layer.old }
+    ensures { layer.new
+        ≡ drawn (masked mask layer.old y (y + 1) columns.from columns.end) (from_rows minterm rows.now columns.from) layer.old }
 {
     let one = Places {
         from: y,

@@ -23,7 +23,8 @@ pub(crate) fn transfer_piece(
     requires bottom { rows.end ≤ 2048 }
     requires right { columns.end ≤ 2048 }
     requires near { AreNear transfer }
-    ensures { layer.new ≡ drawn (masked mask layer.old rows.from rows.end columns.from columns.end) (from_layer layer.old transfer) layer.old }
+    ensures { layer.new
+        ≡ drawn (masked mask layer.old rows.from rows.end columns.from columns.end) (from_layer layer.old transfer) layer.old }
 {
     if let Some(blocks) = move_of(layer, rows, columns, transfer) {
         move_planes(layer, blocks, transfer, mask);
@@ -40,7 +41,8 @@ fn rows_down(layer: &mut Layer, rows: Places, columns: Places, transfer: Transfe
     requires right { columns.end ≤ 2048 }
     requires near { AreNear transfer }
     requires order { pos 0 ≤ℤ transfer.dy }
-    ensures { layer.new ≡ drawn (masked mask layer.old rows.from rows.end columns.from columns.end) (from_layer layer.old transfer) layer.old }
+    ensures { layer.new
+        ≡ drawn (masked mask layer.old rows.from rows.end columns.from columns.end) (from_layer layer.old transfer) layer.old }
 {
     // Reading this tells the proof that the layer has only pens of its depth.
     let _ = layer.depth();
@@ -56,7 +58,8 @@ fn rows_up(layer: &mut Layer, rows: Places, columns: Places, transfer: Transfer,
     requires right { columns.end ≤ 2048 }
     requires near { AreNear transfer }
     requires order { transfer.dy ≤ℤ pos 0 }
-    ensures { layer.new ≡ drawn (masked mask layer.old rows.from rows.end columns.from columns.end) (from_layer layer.old transfer) layer.old }
+    ensures { layer.new
+        ≡ drawn (masked mask layer.old rows.from rows.end columns.from columns.end) (from_layer layer.old transfer) layer.old }
 {
     // As above.
     let _ = layer.depth();
@@ -78,7 +81,8 @@ fn transfer_row(
     requires row { y < 2048 }
     requires right { columns.end ≤ 2048 }
     requires near { AreNear transfer }
-    ensures { layer.new ≡ drawn (masked mask layer.old y (y + 1) columns.from columns.end) (from_layer layer.old transfer) layer.old }
+    ensures { layer.new
+        ≡ drawn (masked mask layer.old y (y + 1) columns.from columns.end) (from_layer layer.old transfer) layer.old }
 {
     let planes = layer.depth();
     let Some(_) = next_stretch(layer, columns.from, y, columns.end) else {

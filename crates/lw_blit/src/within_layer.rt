@@ -23,7 +23,8 @@ use lw_layer::Layer;
 /// as it was. No memory is taken.
 pub fn within(layer: &mut Layer, area: &Area)
     requires fits { IsTrue (area_fits area.now) }
-    ensures { layer.new ≡ with_layer (λ l. clip_blit (λ i j. shows layer.old i j) l (λ i j. shows layer.old i j) area.now l) layer.old }
+    ensures { layer.new
+        ≡ with_layer (λ l. clip_blit (λ i j. shows layer.old i j) l (λ i j. shows layer.old i j) area.now l) layer.old }
 {
     let columns = columns_of(area, layer.width(), layer.width());
     let rows = rows_of(area, layer.height(), layer.height());
@@ -61,7 +62,8 @@ fn transfer_rows(layer: &mut Layer, rows: Places, columns: Places, transfer: Tra
     requires bottom { rows.end ≤ 2048 }
     requires right { columns.end ≤ 2048 }
     requires near { AreNear transfer }
-    ensures { layer.new ≡ drawn (masked mask layer.old rows.from rows.end columns.from columns.end) (from_layer layer.old transfer) layer.old }
+    ensures { layer.new
+        ≡ drawn (masked mask layer.old rows.from rows.end columns.from columns.end) (from_layer layer.old transfer) layer.old }
 {
     if let Some(blocks) = move_of(layer, rows, columns, transfer) {
         move_planes(layer, blocks, transfer, mask);

@@ -15,7 +15,8 @@ pub record IsBufferOf (r : Rectangle) (b : Bitmap) : Type 0 where
 -- as many bitmaps as rectangles, each of its rectangle's size
 pub record AreBuffers (rects : List Rectangle) (buffers : List Bitmap) : Type 0 where
   pub as_many : length buffers ≡ length rects
-  pub sizes : (k : ℕ) (r : Rectangle) (b : Bitmap) → k < length rects → IsBufferOf (slice_index_or rects k r) (slice_index_or buffers k b)
+  pub sizes : (k : ℕ) (r : Rectangle) (b : Bitmap) → k < length rects
+      → IsBufferOf (slice_index_or rects k r) (slice_index_or buffers k b)
 
 -- the pen of a rectangle's bitmap for the place at column x and row y: the bitmap begins at the rectangle's corner
 abbrev pub pen_from : Rectangle → Bitmap → ℤ → ℤ → ℕ

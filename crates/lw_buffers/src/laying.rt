@@ -65,7 +65,8 @@ fn lay_strip(to: &mut Planes, left: i64, top: i64, strip: &Strip)
     requires planes { strip.now.planes.depth ≡ to.old.depth }
     requires left { IsNear left }
     requires top { IsNear top }
-    ensures { to.new ≡ laid (λ x y. has_pixel strip.now.rect x y) (λ x y. pen_from strip.now.rect strip.now.planes x y) left top to.old }
+    ensures { to.new
+        ≡ laid (λ x y. has_pixel strip.now.rect x y) (λ x y. pen_from strip.now.rect strip.now.planes x y) left top to.old }
 {
     lay_buffer(to, left, top, strip.rect(), strip.bitmap());
 }

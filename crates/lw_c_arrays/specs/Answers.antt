@@ -1,5 +1,6 @@
 -- What the calls answer, and what they leave in the arrays.
-use Rattle.std.specs.Prelude.{◌≡◌, ℕ, ◌+◌, ◌*◌, Bool, true, ◌&&◌, ◌||◌, nat_le, ◌==◌, if◌then◌else◌, List, [], ◌∷◌, ◌++◌, map, length, drop, ℤ, pos, negsuc, ◌≤ℤ◌}
+use Rattle.std.specs.Prelude.{◌≡◌, ℕ, ◌+◌, ◌*◌, Bool, true, ◌&&◌, ◌||◌, nat_le, ◌==◌, if◌then◌else◌, List, [], ◌∷◌, ◌++◌, map}
+use Rattle.std.specs.Prelude.{length, drop, ℤ, pos, negsuc, ◌≤ℤ◌}
 use Rattle.std.specs.List.{All, list_any}
 use Rattle.std.specs.Ordering.{int_eq}
 use Rattle.lw_region.specs.Rectangle.{Rectangle, has_pixel}
@@ -33,14 +34,16 @@ region_answer ordered made room = if ordered then (if nat_le (length made) room 
 
 -- What a call that makes a region leaves. Unless memory runs out the answer is that one. The array begins with the list where all
 -- was done, and the rest of it is as before; the count is told also where there is no room.
-pub record IsMade (ordered : Bool) (made : List Rectangle) (old new : List Bounds) (old_count new_count : ℕ) (answer : ℤ) : Type 0 where
+pub record IsMade
+    (ordered : Bool) (made : List Rectangle) (old new : List Bounds) (old_count new_count : ℕ) (answer : ℤ) : Type 0 where
   pub answered : (answer ≡ no_memory → ⊥) → answer ≡ region_answer ordered made (length old)
   pub list : new ≡ (if int_eq answer done then map bounds_of made ++ drop (length made) old else old)
   pub count : new_count ≡ (if int_eq answer done || int_eq answer no_room then length made else old_count)
 
 -- the answer to whether a rectangle of the array has a pixel
 abbrev pub has_answer : List Bounds → ℤ → ℤ → ℤ
-has_answer list x y = if are_ordered list then (if list_any (λ b. has_pixel (rectangle_of b) x y) list then pos 1 else pos 0) else bad_rectangle
+has_answer list x y =
+    if are_ordered list then (if list_any (λ b. has_pixel (rectangle_of b) x y) list then pos 1 else pos 0) else bad_rectangle
 
 -- every pixel of the rectangle with the bounds s is in that with the bounds r
 pub record IsInside (s r : Bounds) : Type 0 where

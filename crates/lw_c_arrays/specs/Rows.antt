@@ -25,7 +25,8 @@ block_lies_in bytes step rows from count = nat_le (from + count) (8 * step) && n
 
 -- If the named bits of the rows from `row` on lie in the block, bit x of row y becomes `value y x`; every other bit of a row
 -- stays. Otherwise all bytes stay, and so they do where rows have no bytes.
-pub record IsBlockSet (fits : Bool) (step row rows from count : ℕ) (value : ℕ → ℕ → ℕ) (old new : List ℕ) (answer : ℤ) : Type 0 where
+pub record IsBlockSet
+    (fits : Bool) (step row rows from count : ℕ) (value : ℕ → ℕ → ℕ) (old new : List ℕ) (answer : ℤ) : Type 0 where
   pub answered : answer ≡ (if fits then done else outside)
   pub bits : fits ≡ true → (y x : ℕ) → x < 8 * step → row_bit new (place_in step y x)
       ≡ (if is_named row rows y && is_named from count x then value y x else row_bit old (place_in step y x))

@@ -2,8 +2,8 @@
 //! `include/layers.h` declares the calls, and says in its first comment what C owes.
 //!
 //! A handle that has no desk is all zeros. `lw_desk_open` and `lw_desk_open_with` give it one, `lw_desk_call` makes any call of
-//! the machine on it, readers tell what the machine's desk shows, and `lw_desk_close` frees all that it has. What a call means and
-//! how a reply is told stands in `lw_c_calls`.
+//! the machine on it, readers tell what the machine's desk shows, and `lw_desk_close` frees all that it has. What a call means
+//! and how a reply is told stands in `lw_c_calls`.
 #![tactic(auto)]
 
 mod answers;

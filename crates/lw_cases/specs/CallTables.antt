@@ -8,7 +8,11 @@ use Rattle.lw_calls.specs.declared.make.Kind.TheVariants.{Simple, Smart, SuperBi
 use Rattle.lw_calls.specs.declared.make.Make.{Make}
 use Rattle.lw_calls.specs.declared.area.Area.{Area}
 use Rattle.lw_calls.specs.declared.call.Call.{Call}
-use Rattle.lw_calls.specs.declared.call.Call.TheVariants.{RegRect, RegPair, RegClear, Create, OpenWindow, Close, ToFront, ToBack, InFrontOf, MoveBy, SizeBy, SetBox, Activate, Which, SetA, SetB, SetMode, SetMask, At, WritePixel, ReadPixel, Fill, DrawTo, Letters, SetRast, ScrollRaster, Put, Blit, Clip, Unclip, BeginRefresh, EndRefresh, Scroll, SetTitle, TakeMessage}
+use Rattle.lw_calls.specs.declared.call.Call.TheVariants.{RegRect, RegPair, RegClear, Create, OpenWindow, Close, ToFront}
+use Rattle.lw_calls.specs.declared.call.Call.TheVariants.{ToBack, InFrontOf, MoveBy, SizeBy, SetBox, Activate, Which, SetA}
+use Rattle.lw_calls.specs.declared.call.Call.TheVariants.{SetB, SetMode, SetMask, At, WritePixel, ReadPixel, Fill, DrawTo}
+use Rattle.lw_calls.specs.declared.call.Call.TheVariants.{Letters, SetRast, ScrollRaster, Put, Blit, Clip, Unclip, BeginRefresh}
+use Rattle.lw_calls.specs.declared.call.Call.TheVariants.{EndRefresh, Scroll, SetTitle, TakeMessage}
 use Rattle.lw_cases.specs.Plans.{rect, box}
 
 -- a rectangle of one pixel, a blit of one pixel, and a layer of one pixel of a bitmap of its own, or without one

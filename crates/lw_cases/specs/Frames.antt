@@ -2,7 +2,8 @@
 -- Plans of framed windows that become active and inactive, and their reports.
 use Rattle.std.specs.Prelude.{ℕ, true, List, [], ◌∷◌, ◌++◌, replicate, pos, neg_ℤ, Option, codes}
 use Rattle.lw_calls.specs.declared.make.Kind.TheVariants.{Simple, Smart}
-use Rattle.lw_calls.specs.declared.call.Call.TheVariants.{Close, ToFront, MoveBy, SizeBy, Activate, SetA, SetMode, SetMask, ReadPixel, Clip, BeginRefresh, EndRefresh, SetTitle}
+use Rattle.lw_calls.specs.declared.call.Call.TheVariants.{Close, ToFront, MoveBy, SizeBy, Activate, SetA, SetMode, SetMask}
+use Rattle.lw_calls.specs.declared.call.Call.TheVariants.{ReadPixel, Clip, BeginRefresh, EndRefresh, SetTitle}
 use Rattle.lw_calls.specs.declared.reply.Reply.{Reply}
 use Rattle.lw_calls.specs.declared.group.Hold.TheVariants.{Slot}
 use Rattle.lw_planes.specs.Bitmap.{pen_at}

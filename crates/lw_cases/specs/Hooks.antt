@@ -3,7 +3,8 @@
 use Rattle.std.specs.Prelude.{ℕ, true, false, List, [], ◌∷◌, ◌++◌, replicate, pos, neg_ℤ, Some, codes}
 use Rattle.lw_calls.specs.declared.make.Kind.TheVariants.{Simple, Smart}
 use Rattle.lw_calls.specs.declared.make.Place.TheVariants.{Behind}
-use Rattle.lw_calls.specs.declared.call.Call.TheVariants.{Create, OpenWindow, Close, SizeBy, Activate, ReadPixel, SetRast, BeginRefresh, EndRefresh}
+use Rattle.lw_calls.specs.declared.call.Call.TheVariants.{Create, OpenWindow, Close, SizeBy, Activate, ReadPixel, SetRast}
+use Rattle.lw_calls.specs.declared.call.Call.TheVariants.{BeginRefresh, EndRefresh}
 use Rattle.lw_calls.specs.declared.group.Hold.TheVariants.{Slot}
 use Rattle.lw_machine.specs.Hook.{Hook}
 use Rattle.lw_calls.specs.Plan.{Plan}

@@ -2,7 +2,8 @@
 -- Plans that paint through masks and in modes, and their reports.
 use Rattle.std.specs.Prelude.{ℕ, List, [], ◌∷◌, ◌++◌, replicate, pos, neg_ℤ, codes}
 use Rattle.lw_calls.specs.declared.make.Kind.TheVariants.{Smart}
-use Rattle.lw_calls.specs.declared.call.Call.TheVariants.{SetA, SetB, SetMode, SetMask, At, WritePixel, ReadPixel, DrawTo, Letters, SetRast}
+use Rattle.lw_calls.specs.declared.call.Call.TheVariants.{SetA, SetB, SetMode, SetMask, At, WritePixel, ReadPixel, DrawTo}
+use Rattle.lw_calls.specs.declared.call.Call.TheVariants.{Letters, SetRast}
 use Rattle.lw_calls.specs.Plan.{Plan}
 use Rattle.lw_cases.specs.Plans.{text, one_task, with_glyph, create, fill}
 
@@ -50,7 +51,8 @@ letters_complemented =
 
 abbrev pub letters_complemented_report : List ℕ
 letters_complemented_report =
-    text (codes "order 8/0 0 0 0 0 0 0 0/planes 16 2 2/plane 0/33cc/0ff0/plane 1/cc33/0ff0/visible w 1/0 0 15 1/damage w 0/" ++ codes "replies a 8/ok/ok/ok/ok/ok/ok/ok/ok/done/")
+    text (codes "order 8/0 0 0 0 0 0 0 0/planes 16 2 2/plane 0/33cc/0ff0/plane 1/cc33/0ff0/visible w 1/0 0 15 1/damage w 0/"
+    ++ codes "replies a 8/ok/ok/ok/ok/ok/ok/ok/ok/done/")
 
 -- two letters of which the first begins left of the layer, and one that passes its right edge and shows its last row alone
 abbrev pub letters_at_edges : Plan

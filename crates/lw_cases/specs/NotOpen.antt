@@ -4,9 +4,13 @@ use Rattle.std.specs.Prelude.{ℕ, true, List, [], ◌∷◌, ◌++◌, pos, cod
 use Rattle.std.specs.List.{flat_map, range_with_len}
 use Rattle.lw_calls.specs.declared.make.Kind.TheVariants.{Smart}
 use Rattle.lw_calls.specs.declared.call.Call.{Call}
-use Rattle.lw_calls.specs.declared.call.Call.TheVariants.{Close, ToFront, ToBack, InFrontOf, MoveBy, SizeBy, SetBox, Activate, SetHook, SetA, SetB, SetMode, SetMask, At, WritePixel, ReadPixel, DrawTo, Letters, SetRast, Clip, Unclip, BeginRefresh, EndRefresh, Scroll, SetTitle, TakeMessage}
+use Rattle.lw_calls.specs.declared.call.Call.TheVariants.{Close, ToFront, ToBack, InFrontOf, MoveBy, SizeBy, SetBox, Activate}
+use Rattle.lw_calls.specs.declared.call.Call.TheVariants.{SetHook, SetA, SetB, SetMode, SetMask, At, WritePixel, ReadPixel}
+use Rattle.lw_calls.specs.declared.call.Call.TheVariants.{DrawTo, Letters, SetRast, Clip, Unclip, BeginRefresh, EndRefresh}
+use Rattle.lw_calls.specs.declared.call.Call.TheVariants.{Scroll, SetTitle, TakeMessage}
 use Rattle.lw_calls.specs.Plan.{Plan}
-use Rattle.lw_cases.specs.Plans.{text, one_task, of_version, with_bitmap, create, fill, scroll_left, blit_row, blit_across, put_row}
+use Rattle.lw_cases.specs.Plans.{text, one_task, of_version, with_bitmap, create, fill, scroll_left, blit_row, blit_across}
+use Rattle.lw_cases.specs.Plans.{put_row}
 use Rattle.lw_cases.specs.Copying.{flat_row}
 
 -- each of the 33 calls that name a layer, on this one; where the call names two, the other is that of slot 1, on both sides

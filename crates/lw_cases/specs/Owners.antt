@@ -3,7 +3,8 @@
 use Rattle.std.specs.Prelude.{ℕ, true, false, List, [], ◌∷◌, ◌++◌, pos, codes}
 use Rattle.lw_calls.specs.declared.operation.RectOp.TheVariants.{Or as OrRect}
 use Rattle.lw_calls.specs.declared.make.Kind.TheVariants.{Smart}
-use Rattle.lw_calls.specs.declared.call.Call.TheVariants.{RegRect, Close, MoveBy, Clip, BeginRefresh, EndRefresh, SetTitle, TakeMessage}
+use Rattle.lw_calls.specs.declared.call.Call.TheVariants.{RegRect, Close, MoveBy, Clip, BeginRefresh, EndRefresh, SetTitle}
+use Rattle.lw_calls.specs.declared.call.Call.TheVariants.{TakeMessage}
 use Rattle.lw_calls.specs.declared.group.Hold.TheVariants.{Slot}
 use Rattle.lw_calls.specs.Plan.{Plan}
 use Rattle.lw_cases.specs.Plans.{text, one_task, with_second_task, rect, create, open_window, fill}

@@ -3,7 +3,8 @@
 use Rattle.std.specs.Prelude.{ℕ, true, false, List, [], ◌∷◌, ◌++◌, pos, neg_ℤ, Some, codes}
 use Rattle.lw_calls.specs.declared.make.Kind.TheVariants.{Simple, Smart}
 use Rattle.lw_calls.specs.declared.make.Place.TheVariants.{Behind}
-use Rattle.lw_calls.specs.declared.call.Call.TheVariants.{Create, OpenWindow, ToFront, MoveBy, SizeBy, SetBox, Activate, SetRast, SetMask, Clip}
+use Rattle.lw_calls.specs.declared.call.Call.TheVariants.{Create, OpenWindow, ToFront, MoveBy, SizeBy, SetBox, Activate}
+use Rattle.lw_calls.specs.declared.call.Call.TheVariants.{SetRast, SetMask, Clip}
 use Rattle.lw_calls.specs.Plan.{Plan}
 use Rattle.lw_cases.specs.Plans.{text, one_task, with_hooks, six_hooks, box, layer, create, create_hooked, open_window, fill}
 

@@ -1,7 +1,8 @@
 -- Worked cases.
 -- The small words of worked plans: a plan of one task, the lines of its report, hooks and glyphs, and calls as a script
 -- spells them.
-use Rattle.std.specs.Prelude.{ℕ, ◌+◌, ◌-◌, ◌%◌, ◌==◌, Bool, true, false, if◌then◌else◌, List, [], ◌∷◌, ◌++◌, map, length, take, drop, replicate, ℤ, pos, None, Some, codes}
+use Rattle.std.specs.Prelude.{ℕ, ◌+◌, ◌-◌, ◌%◌, ◌==◌, Bool, true, false, if◌then◌else◌, List, [], ◌∷◌, ◌++◌, map, length, take}
+use Rattle.std.specs.Prelude.{drop, replicate, ℤ, pos, None, Some, codes}
 use Rattle.std.specs.List.{flat_map, range_with_len}
 use Rattle.lw_region.specs.Rectangle.{Rectangle}
 use Rattle.lw_planes.specs.Bitmap.{Bitmap}

@@ -3,7 +3,8 @@
 use Rattle.std.specs.Prelude.{ℕ, true, List, [], ◌∷◌, ◌++◌, pos, neg_ℤ, codes}
 use Rattle.lw_calls.specs.declared.make.Kind.TheVariants.{Smart}
 use Rattle.lw_calls.specs.declared.make.Place.TheVariants.{Front, Behind}
-use Rattle.lw_calls.specs.declared.call.Call.TheVariants.{Create, Close, ToFront, MoveBy, SizeBy, SetBox, Activate, Scroll, SetTitle}
+use Rattle.lw_calls.specs.declared.call.Call.TheVariants.{Create, Close, ToFront, MoveBy, SizeBy, SetBox, Activate, Scroll}
+use Rattle.lw_calls.specs.declared.call.Call.TheVariants.{SetTitle}
 use Rattle.lw_calls.specs.Plan.{Plan}
 use Rattle.lw_cases.specs.Plans.{text, one_task, layer, create, create_backdrop, create_super, open_window, fill}
 

@@ -2,7 +2,8 @@
 -- Plans that scroll, and their reports.
 use Rattle.std.specs.Prelude.{ℕ, true, false, List, [], ◌∷◌, ◌++◌, pos, neg_ℤ, codes}
 use Rattle.lw_calls.specs.declared.make.Kind.TheVariants.{Simple, Smart, SuperBitmap}
-use Rattle.lw_calls.specs.declared.call.Call.TheVariants.{Create, Close, SetA, SetB, SetMask, WritePixel, ReadPixel, ScrollRaster, BeginRefresh, EndRefresh, Scroll}
+use Rattle.lw_calls.specs.declared.call.Call.TheVariants.{Create, Close, SetA, SetB, SetMask, WritePixel, ReadPixel}
+use Rattle.lw_calls.specs.declared.call.Call.TheVariants.{ScrollRaster, BeginRefresh, EndRefresh, Scroll}
 use Rattle.lw_calls.specs.declared.group.Hold.TheVariants.{Slot}
 use Rattle.lw_calls.specs.Plan.{Plan}
 use Rattle.lw_cases.specs.Plans.{text, one_task, further, grouped, rect, layer, create, open_window, fill, scroll_left}

@@ -2,9 +2,12 @@
 -- Plans of two tasks on each other's windows, and their reports.
 use Rattle.std.specs.Prelude.{ℕ, false, List, [], ◌∷◌, ◌++◌, replicate, pos, codes}
 use Rattle.lw_calls.specs.declared.make.Kind.TheVariants.{Smart, SuperBitmap}
-use Rattle.lw_calls.specs.declared.call.Call.TheVariants.{OpenWindow, Close, ToFront, ToBack, InFrontOf, SizeBy, SetBox, Activate, SetA, SetB, SetMode, SetMask, At, WritePixel, ReadPixel, DrawTo, Letters, SetRast, Clip, Unclip, Scroll}
+use Rattle.lw_calls.specs.declared.call.Call.TheVariants.{OpenWindow, Close, ToFront, ToBack, InFrontOf, SizeBy, SetBox}
+use Rattle.lw_calls.specs.declared.call.Call.TheVariants.{Activate, SetA, SetB, SetMode, SetMask, At, WritePixel, ReadPixel}
+use Rattle.lw_calls.specs.declared.call.Call.TheVariants.{DrawTo, Letters, SetRast, Clip, Unclip, Scroll}
 use Rattle.lw_calls.specs.Plan.{Plan}
-use Rattle.lw_cases.specs.Plans.{text, one_task, with_bitmap, with_second_task, box, open_window, fill, scroll_left, blit_row, put_row}
+use Rattle.lw_cases.specs.Plans.{text, one_task, with_bitmap, with_second_task, box, open_window, fill, scroll_left, blit_row}
+use Rattle.lw_cases.specs.Plans.{put_row}
 
 -- The first task opens a window and one with a bitmap of its own. The second puts the window in front, behind and before the
 -- other one, makes it wider, gives it a box and makes it active, and fills a pixel of the other one, which it then scrolls.

@@ -5,16 +5,21 @@ use Rattle.lw_planes.specs.Bitmap.{Bitmap}
 use Rattle.lw_calls.specs.declared.operation.RectOp.TheVariants.{Or as OrRect}
 use Rattle.lw_calls.specs.declared.make.Kind.TheVariants.{Simple, Smart, SuperBitmap}
 use Rattle.lw_calls.specs.declared.call.Call.{Call}
-use Rattle.lw_calls.specs.declared.call.Call.TheVariants.{RegRect, OpenWindow, Close, ToFront, ToBack, InFrontOf, MoveBy, SizeBy, SetBox, Activate, Which, SetA, SetB, SetMode, SetMask, At, WritePixel, ReadPixel, DrawTo, Letters, SetRast, Clip, Unclip, BeginRefresh, EndRefresh, Scroll, SetTitle, TakeMessage}
+use Rattle.lw_calls.specs.declared.call.Call.TheVariants.{RegRect, OpenWindow, Close, ToFront, ToBack, InFrontOf, MoveBy}
+use Rattle.lw_calls.specs.declared.call.Call.TheVariants.{SizeBy, SetBox, Activate, Which, SetA, SetB, SetMode, SetMask, At}
+use Rattle.lw_calls.specs.declared.call.Call.TheVariants.{WritePixel, ReadPixel, DrawTo, Letters, SetRast, Clip, Unclip}
+use Rattle.lw_calls.specs.declared.call.Call.TheVariants.{BeginRefresh, EndRefresh, Scroll, SetTitle, TakeMessage}
 use Rattle.lw_calls.specs.declared.message.Message.TheVariants.{NewSize, Change, Active}
 use Rattle.lw_calls.specs.declared.reply.Reply.{Reply}
-use Rattle.lw_calls.specs.declared.reply.Reply.TheVariants.{Done, Pen, Outside, Nothing, Layer, Rects, Got, AlreadyOpen, NotSuper, InUpdate, NotInUpdate, OutOfBounds}
+use Rattle.lw_calls.specs.declared.reply.Reply.TheVariants.{Done, Pen, Outside, Nothing, Layer, Rects, Got, AlreadyOpen}
+use Rattle.lw_calls.specs.declared.reply.Reply.TheVariants.{NotSuper, InUpdate, NotInUpdate, OutOfBounds}
 use Rattle.lw_calls.specs.declared.last.Seen.{Seen}
 use Rattle.lw_calls.specs.declared.group.Hold.TheVariants.{Slot}
 use Rattle.lw_calls.specs.declared.group.Group.{Group}
 use Rattle.lw_calls.specs.Final.{Final}
 use Rattle.lw_calls.specs.Plan.{Plan}
-use Rattle.lw_cases.specs.Plans.{one_task, with_bitmap, with_second_task, rect, box, create, open_window, fill, scroll_left, blit_row, put_row}
+use Rattle.lw_cases.specs.Plans.{one_task, with_bitmap, with_second_task, rect, box, create, open_window, fill, scroll_left}
+use Rattle.lw_cases.specs.Plans.{blit_row, put_row}
 use Rattle.lw_cases.specs.Modes.{with_low_letter}
 
 -- a pixel of pen 1

@@ -3,7 +3,8 @@
 use Rattle.std.specs.Prelude.{ℕ, true, List, [], ◌∷◌, ◌++◌, pos, neg_ℤ, codes}
 use Rattle.lw_calls.specs.declared.operation.RectOp.TheVariants.{Or as OrRect}
 use Rattle.lw_calls.specs.declared.make.Kind.TheVariants.{Simple, Smart}
-use Rattle.lw_calls.specs.declared.call.Call.TheVariants.{RegRect, Close, At, DrawTo, Letters, SetRast, Clip, BeginRefresh, EndRefresh}
+use Rattle.lw_calls.specs.declared.call.Call.TheVariants.{RegRect, Close, At, DrawTo, Letters, SetRast, Clip, BeginRefresh}
+use Rattle.lw_calls.specs.declared.call.Call.TheVariants.{EndRefresh}
 use Rattle.lw_calls.specs.declared.group.Hold.TheVariants.{Slot}
 use Rattle.lw_calls.specs.Plan.{Plan}
 use Rattle.lw_cases.specs.Plans.{text, one_task, grouped, with_glyph, rect, create}

@@ -3,10 +3,13 @@
 use Rattle.std.specs.Prelude.{ℕ, true, false, List, [], ◌∷◌, ◌++◌, pos, neg_ℤ, codes}
 use Rattle.lw_calls.specs.declared.operation.RectOp.TheVariants.{Or as OrRect}
 use Rattle.lw_calls.specs.declared.make.Kind.TheVariants.{Smart, SuperBitmap}
-use Rattle.lw_calls.specs.declared.call.Call.TheVariants.{RegRect, OpenWindow, Close, MoveBy, SizeBy, SetBox, At, WritePixel, ReadPixel, DrawTo, Letters, SetRast, Clip, BeginRefresh, EndRefresh, Scroll}
+use Rattle.lw_calls.specs.declared.call.Call.TheVariants.{RegRect, OpenWindow, Close, MoveBy, SizeBy, SetBox, At, WritePixel}
+use Rattle.lw_calls.specs.declared.call.Call.TheVariants.{ReadPixel, DrawTo, Letters, SetRast, Clip, BeginRefresh, EndRefresh}
+use Rattle.lw_calls.specs.declared.call.Call.TheVariants.{Scroll}
 use Rattle.lw_calls.specs.declared.group.Hold.TheVariants.{Slot}
 use Rattle.lw_calls.specs.Plan.{Plan}
-use Rattle.lw_cases.specs.Plans.{text, one_task, grouped, with_bitmap, rect, box, create, create_super, fill, scroll_left, blit_row, blit_across, put_row}
+use Rattle.lw_cases.specs.Plans.{text, one_task, grouped, with_bitmap, rect, box, create, create_super, fill, scroll_left}
+use Rattle.lw_cases.specs.Plans.{blit_row, blit_across, put_row}
 use Rattle.lw_cases.specs.Copying.{flat_row}
 use Rattle.lw_cases.specs.Modes.{with_low_letter}
 

@@ -3,7 +3,8 @@
 use Rattle.std.specs.Prelude.{ℕ, true, false, List, [], ◌∷◌, ◌++◌, pos, codes}
 use Rattle.lw_calls.specs.declared.operation.RectOp.TheVariants.{Or as OrRect}
 use Rattle.lw_calls.specs.declared.make.Kind.TheVariants.{Simple, Smart}
-use Rattle.lw_calls.specs.declared.call.Call.TheVariants.{RegRect, OpenWindow, Close, ToFront, MoveBy, SetRast, Clip, Unclip, BeginRefresh, EndRefresh, TakeMessage}
+use Rattle.lw_calls.specs.declared.call.Call.TheVariants.{RegRect, OpenWindow, Close, ToFront, MoveBy, SetRast, Clip, Unclip}
+use Rattle.lw_calls.specs.declared.call.Call.TheVariants.{BeginRefresh, EndRefresh, TakeMessage}
 use Rattle.lw_calls.specs.declared.group.Hold.TheVariants.{Slot}
 use Rattle.lw_calls.specs.Plan.{Plan}
 use Rattle.lw_cases.specs.Plans.{text, one_task, further, grouped, rect, box, create, open_window, fill, scroll_left}

@@ -23,7 +23,8 @@ covered_again = further asked_to_refresh (ToFront 1 ∷ [])
 
 abbrev pub covered_again_report : List ℕ
 covered_again_report =
-    text (codes "order 4/0 0 0 0/planes 16 4 1/plane 0/0000/0000/0000/0000/visible b 2/0 0 3 2/0 3 2 3/visible f 1/3 3 6 3/" ++ codes "damage b 0/damage f 0/messages b 1/refresh/replies a 4/ok/ok/ok/ok/done/")
+    text (codes "order 4/0 0 0 0/planes 16 4 1/plane 0/0000/0000/0000/0000/visible b 2/0 0 3 2/0 3 2 3/visible f 1/3 3 6 3/"
+    ++ codes "damage b 0/damage f 0/messages b 1/refresh/replies a 4/ok/ok/ok/ok/done/")
 
 -- and then uncovered again
 abbrev pub uncovered_again : Plan

@@ -4,7 +4,8 @@
 ghost use Rattle.std.specs.Prelude.{◌≡◌, []};
 ghost use Rattle.lw_calls.specs.Entries.{only_order};
 ghost use Rattle.lw_machine.specs.Report.{run_report};
-ghost use Rattle.lw_cases.specs.Arranging.{simple_move, simple_move_report, which_in_front, which_in_front_report, drawn_after_arrangements, drawn_after_arrangements_report};
+ghost use Rattle.lw_cases.specs.Arranging.{simple_move, simple_move_report, which_in_front, which_in_front_report};
+ghost use Rattle.lw_cases.specs.Arranging.{drawn_after_arrangements, drawn_after_arrangements_report};
 
 /// A simple layer that is moved from under another keeps the pens that it showed, and has damage where it showed none.
 pub fn simple_move_damages_what_it_reveals()

@@ -4,7 +4,8 @@
 ghost use Rattle.std.specs.Prelude.{◌≡◌, []};
 ghost use Rattle.lw_calls.specs.Entries.{only_order};
 ghost use Rattle.lw_machine.specs.Report.{run_report};
-ghost use Rattle.lw_cases.specs.BlitSources.{rows_put, rows_put_report, blit_into_clip, blit_into_clip_report, updated_blits, updated_blits_report};
+ghost use Rattle.lw_cases.specs.BlitSources.{rows_put, rows_put_report, blit_into_clip, blit_into_clip_report, updated_blits};
+ghost use Rattle.lw_cases.specs.BlitSources.{updated_blits_report};
 
 /// The named bitmap is put, each row where it belongs and no row more, and what lies below it paints nothing.
 pub fn put_takes_the_rows_of_its_bitmap()

@@ -6,8 +6,14 @@ ghost use Rattle.lw_calls.specs.declared.make.Kind.TheVariants.{Simple, Smart};
 ghost use Rattle.lw_calls.specs.declared.call.Call.TheVariants.{OpenWindow, SetHook, SetMode, Put};
 ghost use Rattle.lw_calls.specs.Limits.{call_fits};
 ghost use Rattle.lw_cases.specs.Plans.{box};
-ghost use Rattle.lw_cases.specs.CallTables.{one_pixel, own_pixel, layer_of, window_of, on_one_layer, arrangements, beside_slot_0, at_a_pair, of_a_size, made_of_a_size, in_a_rectangle, with_a_byte, with_a_register, with_a_minterm, with_a_hook, with_own_bitmap, with_a_bitmap_of_none};
-ghost use Rattle.lw_cases.specs.CallLimits.{few_of_each, all_fit, some_fits, calls_with, calls_with_pairs, pairs_at_bounds, pairs_past_bounds, sizes_at_bounds, sizes_past_bounds, made_sizes_at_bounds, made_sizes_past_bounds, own_sizes_at_bounds, own_sizes_past_bounds, rectangles_at_bounds, rectangles_past_bounds, minterms, no_minterms};
+ghost use Rattle.lw_cases.specs.CallTables.{one_pixel, own_pixel, layer_of, window_of, on_one_layer, arrangements};
+ghost use Rattle.lw_cases.specs.CallTables.{beside_slot_0, at_a_pair, of_a_size, made_of_a_size, in_a_rectangle, with_a_byte};
+ghost use Rattle.lw_cases.specs.CallTables.{with_a_register, with_a_minterm, with_a_hook, with_own_bitmap};
+ghost use Rattle.lw_cases.specs.CallTables.{with_a_bitmap_of_none};
+ghost use Rattle.lw_cases.specs.CallLimits.{few_of_each, all_fit, some_fits, calls_with, calls_with_pairs, pairs_at_bounds};
+ghost use Rattle.lw_cases.specs.CallLimits.{pairs_past_bounds, sizes_at_bounds, sizes_past_bounds, made_sizes_at_bounds};
+ghost use Rattle.lw_cases.specs.CallLimits.{made_sizes_past_bounds, own_sizes_at_bounds, own_sizes_past_bounds};
+ghost use Rattle.lw_cases.specs.CallLimits.{rectangles_at_bounds, rectangles_past_bounds, minterms, no_minterms};
 
 /// A call names slots, bitmaps and hooks that there are: of two slots, three bitmaps and five hooks the last ones.
 pub fn calls_name_what_there_is()

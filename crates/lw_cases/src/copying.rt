@@ -4,7 +4,9 @@
 ghost use Rattle.std.specs.Prelude.{◌≡◌, []};
 ghost use Rattle.lw_calls.specs.Entries.{only_order};
 ghost use Rattle.lw_machine.specs.Report.{run_report};
-ghost use Rattle.lw_cases.specs.Copying.{put_deep, put_deep_report, put_flat, put_flat_report, put_beyond, put_beyond_report, blit_from_hidden, blit_from_hidden_report, blit_to_hidden, blit_to_hidden_report, put_masked, put_masked_report};
+ghost use Rattle.lw_cases.specs.Copying.{put_deep, put_deep_report, put_flat, put_flat_report, put_beyond, put_beyond_report};
+ghost use Rattle.lw_cases.specs.Copying.{blit_from_hidden, blit_from_hidden_report, blit_to_hidden, blit_to_hidden_report};
+ghost use Rattle.lw_cases.specs.Copying.{put_masked, put_masked_report};
 
 /// A bitmap of more planes than the screen loses the higher ones, and one of fewer has 0 in them.
 pub fn bitmap_is_put_at_any_depth()

@@ -4,7 +4,11 @@
 ghost use Rattle.std.specs.Prelude.{◌≡◌, []};
 ghost use Rattle.lw_calls.specs.Entries.{only_order};
 ghost use Rattle.lw_machine.specs.Report.{run_report};
-ghost use Rattle.lw_cases.specs.Drawing.{first_fill, first_fill_report, padded_row, padded_row_report, fill_outside, fill_outside_report, line_drawn, line_drawn_report, line_complemented, line_complemented_report, line_complemented_twice, line_complemented_twice_report, inverse_text, inverse_text_report, blit_right, blit_right_report, blit_left, blit_left_report, blit_away, blit_away_report};
+ghost use Rattle.lw_cases.specs.Drawing.{first_fill, first_fill_report, padded_row, padded_row_report, fill_outside};
+ghost use Rattle.lw_cases.specs.Drawing.{fill_outside_report, line_drawn, line_drawn_report, line_complemented};
+ghost use Rattle.lw_cases.specs.Drawing.{line_complemented_report, line_complemented_twice, line_complemented_twice_report};
+ghost use Rattle.lw_cases.specs.Drawing.{inverse_text, inverse_text_report, blit_right, blit_right_report, blit_left};
+ghost use Rattle.lw_cases.specs.Drawing.{blit_left_report, blit_away, blit_away_report};
 
 /// A fill of two by two pixels on a layer of eight by four.
 pub fn fill_paints_its_rectangle()

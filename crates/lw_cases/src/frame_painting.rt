@@ -5,7 +5,8 @@ ghost use Rattle.std.specs.Prelude.{◌≡◌, []};
 ghost use Rattle.lw_calls.specs.Entries.{only_order};
 ghost use Rattle.lw_machine.specs.Report.{run_report};
 ghost use Rattle.lw_cases.specs.Plans.{six_hooks};
-ghost use Rattle.lw_cases.specs.FramePainting.{frame_resized, frame_resized_report, frame_and_inner_uncovered, frame_and_inner_uncovered_report, activity_passed_on, activity_passed_on_report};
+ghost use Rattle.lw_cases.specs.FramePainting.{frame_resized, frame_resized_report, frame_and_inner_uncovered};
+ghost use Rattle.lw_cases.specs.FramePainting.{frame_and_inner_uncovered_report, activity_passed_on, activity_passed_on_report};
 
 /// Where the size of a window changes, what was frame and is inner now is filled and damaged, and the new frame is painted.
 pub fn old_frame_is_filled_and_new_frame_painted()

@@ -5,7 +5,12 @@ ghost use Rattle.std.specs.Prelude.{◌≡◌, ◌∷◌, ◌++◌, [], replicat
 ghost use Rattle.lw_calls.specs.declared.reply.Reply.TheVariants.{Done, Pen};
 ghost use Rattle.lw_calls.specs.Entries.{only_order};
 ghost use Rattle.lw_machine.specs.Report.{run_report};
-ghost use Rattle.lw_cases.specs.Frames.{second_activated, second_activated_report, active_closed, active_closed_report, first_activated_again, first_activated_again_report, frame_uncovered, frame_uncovered_report, frame_narrowed, frame_narrowed_report, frame_painted_over, frame_painted_over_report, frame_painted_again, frame_painted_again_report, frame_covered, pen_after, active_after, replies_to, activated_twice, inverse_title, updated_title};
+ghost use Rattle.lw_cases.specs.Frames.{second_activated, second_activated_report, active_closed, active_closed_report};
+ghost use Rattle.lw_cases.specs.Frames.{first_activated_again, first_activated_again_report, frame_uncovered};
+ghost use Rattle.lw_cases.specs.Frames.{frame_uncovered_report, frame_narrowed, frame_narrowed_report, frame_painted_over};
+ghost use Rattle.lw_cases.specs.Frames.{frame_painted_over_report, frame_painted_again, frame_painted_again_report};
+ghost use Rattle.lw_cases.specs.Frames.{frame_covered, pen_after, active_after, replies_to, activated_twice, inverse_title};
+ghost use Rattle.lw_cases.specs.Frames.{updated_title};
 
 /// One window is active, and shows it: another that becomes active makes it inactive, and closing it leaves none active.
 pub fn one_window_is_active()

@@ -4,13 +4,15 @@
 ghost use Rattle.std.specs.Prelude.{◌≡◌, ◌∷◌, [], true, false, pos};
 ghost use Rattle.std.specs.List.{list_all};
 ghost use Rattle.lw_calls.specs.declared.make.Kind.TheVariants.{Smart};
-ghost use Rattle.lw_calls.specs.declared.call.Call.TheVariants.{RegClear, Close, ToFront, Activate, SetHook, Which, ReadPixel, Clip, BeginRefresh, EndRefresh};
+ghost use Rattle.lw_calls.specs.declared.call.Call.TheVariants.{RegClear, Close, ToFront, Activate, SetHook, Which, ReadPixel};
+ghost use Rattle.lw_calls.specs.declared.call.Call.TheVariants.{Clip, BeginRefresh, EndRefresh};
 ghost use Rattle.lw_calls.specs.declared.group.Hold.TheVariants.{Slot, All};
 ghost use Rattle.lw_calls.specs.Orders.{is_legal};
 ghost use Rattle.lw_calls.specs.Plan.{groups_fit};
 ghost use Rattle.lw_cases.specs.Fitting.{fits_its_sizes};
 ghost use Rattle.lw_cases.specs.Plans.{create, blit_across};
-ghost use Rattle.lw_cases.specs.Sharing.{served_by_another, served_by_another_order, drawn_by_another, drawn_by_another_order, opened_by_the_second, opened_by_the_second_order};
+ghost use Rattle.lw_cases.specs.Sharing.{served_by_another, served_by_another_order, drawn_by_another, drawn_by_another_order};
+ghost use Rattle.lw_cases.specs.Sharing.{opened_by_the_second, opened_by_the_second_order};
 ghost use Rattle.lw_cases.specs.OwnDamage.{damage_beside, damage_beside_order};
 ghost use Rattle.lw_cases.specs.Grouping.{fit_as, lock_from, hold_from, fill_first, three_fills, arrangement_plans};
 

@@ -27,7 +27,8 @@ pub fn damage_of_a_cover_is_its_history()
 
 /// A layer that is scrolled under a cover, uncovered, and scrolled once more.
 pub fn damage_of_a_scroll_is_its_history()
-    ensures under_cover { HasDamageByHistory scroll_under_cover [] (only_order scroll_under_cover) 0 (rectangle_pixels (rect 2 0 2 0)) }
+    ensures under_cover { HasDamageByHistory scroll_under_cover [] (only_order scroll_under_cover) 0
+        (rectangle_pixels (rect 2 0 2 0)) }
     ensures uncovered { HasDamageByHistory scroll_uncovered [] (only_order scroll_uncovered) 0 (rectangle_pixels (rect 2 0 4 0)) }
     ensures once_more { HasDamageByHistory scroll_damage [] (only_order scroll_damage) 0 (rectangle_pixels (rect 1 0 3 0)) }
 {}
@@ -36,7 +37,8 @@ pub fn damage_of_a_scroll_is_its_history()
 pub fn damage_of_an_update_is_its_history()
     ensures in_part { HasDamageByHistory updated_in_part [] (only_order updated_in_part) 0 (rectangle_pixels (rect 2 0 3 0)) }
     ensures in_full { HasDamageByHistory updated_in_full [] (only_order updated_in_full) 0 (rectangle_pixels (rect 2 0 3 0)) }
-    ensures scrolled { HasDamageByHistory asked_after_scroll [] (only_order asked_after_scroll) 0 (rectangle_pixels (rect 2 0 2 0)) }
+    ensures scrolled { HasDamageByHistory asked_after_scroll [] (only_order asked_after_scroll) 0
+        (rectangle_pixels (rect 2 0 2 0)) }
     ensures hook { HasDamageByHistory checkered_again six_hooks (only_order checkered_again) 0 (rectangle_pixels (rect 2 0 5 0)) }
 {}
 

@@ -5,7 +5,12 @@ ghost use Rattle.std.specs.Prelude.{◌≡◌, ◌∷◌, []};
 ghost use Rattle.lw_calls.specs.Entries.{only_order};
 ghost use Rattle.lw_machine.specs.Report.{run_report};
 ghost use Rattle.lw_cases.specs.Plans.{six_hooks};
-ghost use Rattle.lw_cases.specs.Hooks.{growth_filled, growth_filled_report, refreshed_in_part, refreshed_in_part_report, refreshed_in_full, refreshed_in_full_report, hook_turned, hook_turned_report, checkered, checkered_report, checkered_again, checkered_again_report, dotted, tiled, tiled_report, created_covered, created_covered_report, hooks_cut, hooks_cut_report, hook_named_again, hook_named_again_report, hook_dropped, hook_dropped_report, grown_under_a_cover, grown_under_a_cover_report, grown_twice, grown_twice_report};
+ghost use Rattle.lw_cases.specs.Hooks.{growth_filled, growth_filled_report, refreshed_in_part, refreshed_in_part_report};
+ghost use Rattle.lw_cases.specs.Hooks.{refreshed_in_full, refreshed_in_full_report, hook_turned, hook_turned_report, checkered};
+ghost use Rattle.lw_cases.specs.Hooks.{checkered_report, checkered_again, checkered_again_report, dotted, tiled, tiled_report};
+ghost use Rattle.lw_cases.specs.Hooks.{created_covered, created_covered_report, hooks_cut, hooks_cut_report, hook_named_again};
+ghost use Rattle.lw_cases.specs.Hooks.{hook_named_again_report, hook_dropped, hook_dropped_report, grown_under_a_cover};
+ghost use Rattle.lw_cases.specs.Hooks.{grown_under_a_cover_report, grown_twice, grown_twice_report};
 
 /// What a layer gains is filled by its hook and damaged; a partial refresh leaves the damage, a full one clears it.
 pub fn growth_is_filled_and_refreshed()

@@ -4,7 +4,13 @@
 ghost use Rattle.std.specs.Prelude.{◌≡◌, []};
 ghost use Rattle.lw_calls.specs.Entries.{only_order};
 ghost use Rattle.lw_machine.specs.Report.{run_report};
-ghost use Rattle.lw_cases.specs.Modes.{masked_fills, masked_fills_report, masked_raster, masked_raster_report, letters_jam1, letters_jam1_report, letters_complemented, letters_complemented_report, letters_at_edges, letters_at_edges_report, codes_without_glyph, codes_without_glyph_report, letters_far_off, letters_far_off_report, inverse_shapes, inverse_shapes_report, masked_shapes, masked_shapes_report, pixels_complemented, pixels_complemented_report, read_while_masked, read_while_masked_report, codes_round_the_last, codes_round_the_last_report};
+ghost use Rattle.lw_cases.specs.Modes.{masked_fills, masked_fills_report, masked_raster, masked_raster_report, letters_jam1};
+ghost use Rattle.lw_cases.specs.Modes.{letters_jam1_report, letters_complemented, letters_complemented_report};
+ghost use Rattle.lw_cases.specs.Modes.{letters_at_edges, letters_at_edges_report, codes_without_glyph};
+ghost use Rattle.lw_cases.specs.Modes.{codes_without_glyph_report, letters_far_off, letters_far_off_report, inverse_shapes};
+ghost use Rattle.lw_cases.specs.Modes.{inverse_shapes_report, masked_shapes, masked_shapes_report, pixels_complemented};
+ghost use Rattle.lw_cases.specs.Modes.{pixels_complemented_report, read_while_masked, read_while_masked_report};
+ghost use Rattle.lw_cases.specs.Modes.{codes_round_the_last, codes_round_the_last_report};
 
 /// The planes that a mask hasn't got stay as they are, in any mode.
 pub fn mask_keeps_planes()

@@ -7,7 +7,11 @@ ghost use Rattle.lw_calls.specs.declared.call.Call.TheVariants.{RegPair, RegClea
 ghost use Rattle.lw_calls.specs.Orders.{is_legal, IsBadPlace};
 ghost use Rattle.lw_calls.specs.Entries.{entries};
 ghost use Rattle.lw_machine.specs.Report.{run_report};
-ghost use Rattle.lw_cases.specs.Orders.{two_layers, first_begins, first_begins_entries, second_begins, second_begins_entries, two_layers_report, locked_fills, within_the_lock, cut_short, before_all, before_all_entries, before_all_report, after_all, after_all_entries, after_all_report, beside_a_hold, beside_a_lock, beside_two_locks, within_the_hold, before_the_hold, after_the_hold, region_call, look, blit_of, within_the_hold_report};
+ghost use Rattle.lw_cases.specs.Orders.{two_layers, first_begins, first_begins_entries, second_begins, second_begins_entries};
+ghost use Rattle.lw_cases.specs.Orders.{two_layers_report, locked_fills, within_the_lock, cut_short, before_all};
+ghost use Rattle.lw_cases.specs.Orders.{before_all_entries, before_all_report, after_all, after_all_entries, after_all_report};
+ghost use Rattle.lw_cases.specs.Orders.{beside_a_hold, beside_a_lock, beside_two_locks, within_the_hold, before_the_hold};
+ghost use Rattle.lw_cases.specs.Orders.{after_the_hold, region_call, look, blit_of, within_the_hold_report};
 ghost use Rattle.lw_cases.specs.Plans.{fill};
 
 /// Two tasks that each draw into a layer of their own: of the report, the second line alone depends on the order.

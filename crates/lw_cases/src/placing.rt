@@ -5,7 +5,8 @@ ghost use Rattle.std.specs.Prelude.{◌≡◌, []};
 ghost use Rattle.lw_calls.specs.Entries.{only_order};
 ghost use Rattle.lw_machine.specs.Report.{run_report};
 ghost use Rattle.lw_cases.specs.Plans.{six_hooks};
-ghost use Rattle.lw_cases.specs.Placing.{placed_by_rows, placed_by_rows_report, windows_opened, windows_opened_report, widened_in_clip, widened_in_clip_report};
+ghost use Rattle.lw_cases.specs.Placing.{placed_by_rows, placed_by_rows_report, windows_opened, windows_opened_report};
+ghost use Rattle.lw_cases.specs.Placing.{widened_in_clip, widened_in_clip_report};
 
 /// A layer is moved, sized and boxed by rows as by columns; it has a row, and none above or below the screen.
 pub fn layer_is_placed_by_its_rows()

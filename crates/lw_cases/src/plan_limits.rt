@@ -7,7 +7,8 @@ ghost use Rattle.lw_calls.specs.declared.call.Call.TheVariants.{RegClear};
 ghost use Rattle.lw_calls.specs.Limits.{IsWithinLimits};
 ghost use Rattle.lw_calls.specs.Plan.{IsPlan, no_assets};
 ghost use Rattle.lw_cases.specs.Grouping.{lock_from};
-ghost use Rattle.lw_cases.specs.PlanLimits.{least_sizes, greatest_sizes, second_sizes, third_sizes, clears, filled, filled_plan, second_filled, third_filled, first_calling, second_calling};
+ghost use Rattle.lw_cases.specs.PlanLimits.{least_sizes, greatest_sizes, second_sizes, third_sizes, clears, filled};
+ghost use Rattle.lw_cases.specs.PlanLimits.{filled_plan, second_filled, third_filled, first_calling, second_calling};
 
 /// A version of 1 to 3, a screen of 1 to 8 planes, 1 to 16 tasks and at most 16 bitmaps; and in version 1 a screen of 1 to 1024
 /// by 1 to 1024 pixels and at most 64 layer names.

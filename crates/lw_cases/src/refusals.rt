@@ -4,7 +4,8 @@
 ghost use Rattle.std.specs.Prelude.{◌≡◌, []};
 ghost use Rattle.lw_calls.specs.Entries.{only_order};
 ghost use Rattle.lw_machine.specs.Report.{run_report};
-ghost use Rattle.lw_cases.specs.Refusals.{refused_calls, refused_calls_report, backdrop_closed, backdrop_closed_report, first_causes, first_causes_report, made_too_small, made_too_small_report};
+ghost use Rattle.lw_cases.specs.Refusals.{refused_calls, refused_calls_report, backdrop_closed, backdrop_closed_report};
+ghost use Rattle.lw_cases.specs.Refusals.{first_causes, first_causes_report, made_too_small, made_too_small_report};
 
 /// Refused calls change nothing, and a fill is cut at the layer's edge.
 pub fn refused_calls_change_nothing()

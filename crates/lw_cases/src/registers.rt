@@ -4,7 +4,8 @@
 ghost use Rattle.std.specs.Prelude.{◌≡◌, []};
 ghost use Rattle.lw_calls.specs.Entries.{only_order};
 ghost use Rattle.lw_machine.specs.Report.{run_report};
-ghost use Rattle.lw_cases.specs.Registers.{clipped, clipped_fill, clipped_report, joined, joined_report, joined_to_itself, joined_to_itself_report, filled_up, filled_up_report};
+ghost use Rattle.lw_cases.specs.Registers.{clipped, clipped_fill, clipped_report, joined, joined_report, joined_to_itself};
+ghost use Rattle.lw_cases.specs.Registers.{joined_to_itself_report, filled_up, filled_up_report};
 
 /// A clip region is a copy of its register, cuts what is painted, and is told when it is replaced.
 pub fn clip_is_a_copy()

@@ -4,7 +4,12 @@
 ghost use Rattle.std.specs.Prelude.{◌≡◌, []};
 ghost use Rattle.lw_calls.specs.Entries.{only_order};
 ghost use Rattle.lw_machine.specs.Report.{run_report};
-ghost use Rattle.lw_cases.specs.Scrolling.{scroll_past_all, scroll_past_all_report, scroll_under_cover, scroll_under_cover_report, scroll_uncovered, scroll_uncovered_report, scroll_damage, scroll_damage_report, portion_scrolled, portion_scrolled_report, scroll_right_down, scroll_right_down_report, scroll_masked, scroll_masked_report, scroll_updated, scroll_updated_report, scroll_in_frame, scroll_in_frame_report, scroll_from_damage, scroll_from_damage_report, scroll_by_nothing, scroll_by_nothing_report};
+ghost use Rattle.lw_cases.specs.Scrolling.{scroll_past_all, scroll_past_all_report, scroll_under_cover};
+ghost use Rattle.lw_cases.specs.Scrolling.{scroll_under_cover_report, scroll_uncovered, scroll_uncovered_report, scroll_damage};
+ghost use Rattle.lw_cases.specs.Scrolling.{scroll_damage_report, portion_scrolled, portion_scrolled_report, scroll_right_down};
+ghost use Rattle.lw_cases.specs.Scrolling.{scroll_right_down_report, scroll_masked, scroll_masked_report, scroll_updated};
+ghost use Rattle.lw_cases.specs.Scrolling.{scroll_updated_report, scroll_in_frame, scroll_in_frame_report, scroll_from_damage};
+ghost use Rattle.lw_cases.specs.Scrolling.{scroll_from_damage_report, scroll_by_nothing, scroll_by_nothing_report};
 
 /// What is scrolled in from outside the rectangle has pen B, and keeps the damage that the pixel had.
 pub fn scroll_past_all_shows_pen_b()

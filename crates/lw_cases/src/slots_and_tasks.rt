@@ -3,7 +3,10 @@
 
 ghost use Rattle.std.specs.Prelude.{◌≡◌, ◌∷◌, [], replicate, Some, None};
 ghost use Rattle.lw_machine.specs.Finals.{run_final};
-ghost use Rattle.lw_cases.specs.SlotsAndTasks.{by_the_first, by_the_second, no_groups, left_with, drawn, drawn_groups, drawn_row, drawn_seen, drawn_replies, arranged, arranged_row, arranged_seen, beside_seen, arranged_replies, deleted, deleted_replies, refused, refused_seen, refused_replies};
+ghost use Rattle.lw_cases.specs.SlotsAndTasks.{by_the_first, by_the_second, no_groups, left_with, drawn, drawn_groups};
+ghost use Rattle.lw_cases.specs.SlotsAndTasks.{drawn_row, drawn_seen, drawn_replies, arranged, arranged_row, arranged_seen};
+ghost use Rattle.lw_cases.specs.SlotsAndTasks.{beside_seen, arranged_replies, deleted, deleted_replies, refused, refused_seen};
+ghost use Rattle.lw_cases.specs.SlotsAndTasks.{refused_replies};
 
 /// The first task draws on slot 1, and the second on slot 0.
 pub fn calls_draw_on_the_slot_that_they_name()

@@ -4,7 +4,9 @@
 ghost use Rattle.std.specs.Prelude.{◌≡◌, []};
 ghost use Rattle.lw_calls.specs.Entries.{only_order};
 ghost use Rattle.lw_machine.specs.Report.{run_report};
-ghost use Rattle.lw_cases.specs.Stacking.{put_in_front, put_in_front_report, put_first, put_first_report, backdrop_in_front, backdrop_in_front_report, put_behind, put_behind_report, backdrops_created, backdrops_created_report};
+ghost use Rattle.lw_cases.specs.Stacking.{put_in_front, put_in_front_report, put_first, put_first_report, backdrop_in_front};
+ghost use Rattle.lw_cases.specs.Stacking.{backdrop_in_front_report, put_behind, put_behind_report, backdrops_created};
+ghost use Rattle.lw_cases.specs.Stacking.{backdrops_created_report};
 
 /// A layer goes directly before another, and not before itself.
 pub fn layer_goes_before_another()

@@ -4,7 +4,9 @@
 ghost use Rattle.std.specs.Prelude.{◌≡◌, []};
 ghost use Rattle.lw_calls.specs.Entries.{only_order};
 ghost use Rattle.lw_machine.specs.Report.{run_report};
-ghost use Rattle.lw_cases.specs.Strokes.{lines_by_one_more, lines_by_one_more_report, letters_moved, letters_moved_report, code_below_blank, code_below_blank_report, updated_strokes, updated_strokes_report, line_of_no_length, line_of_no_length_report};
+ghost use Rattle.lw_cases.specs.Strokes.{lines_by_one_more, lines_by_one_more_report, letters_moved, letters_moved_report};
+ghost use Rattle.lw_cases.specs.Strokes.{code_below_blank, code_below_blank_report, updated_strokes, updated_strokes_report};
+ghost use Rattle.lw_cases.specs.Strokes.{line_of_no_length, line_of_no_length_report};
 
 /// A line has one pixel at each step of its longer axis, if it is longer by one alone.
 pub fn line_goes_by_its_longer_axis()

@@ -4,7 +4,12 @@
 ghost use Rattle.std.specs.Prelude.{◌≡◌, []};
 ghost use Rattle.lw_calls.specs.Entries.{only_order};
 ghost use Rattle.lw_machine.specs.Report.{run_report};
-ghost use Rattle.lw_cases.specs.SuperBitmaps.{scrolls_refused, scrolls_refused_report, super_updated, super_updated_report, super_uncovered, super_uncovered_report, super_window, super_window_report, portion_clipped, portion_clipped_report, hidden_part_copied, hidden_part_copied_report, hidden_part_drawn, hidden_part_drawn_report, hidden_part_painted, hidden_part_painted_report, one_scrolled, one_scrolled_report};
+ghost use Rattle.lw_cases.specs.SuperBitmaps.{scrolls_refused, scrolls_refused_report, super_updated, super_updated_report};
+ghost use Rattle.lw_cases.specs.SuperBitmaps.{super_uncovered, super_uncovered_report, super_window, super_window_report};
+ghost use Rattle.lw_cases.specs.SuperBitmaps.{portion_clipped, portion_clipped_report, hidden_part_copied};
+ghost use Rattle.lw_cases.specs.SuperBitmaps.{hidden_part_copied_report, hidden_part_drawn, hidden_part_drawn_report};
+ghost use Rattle.lw_cases.specs.SuperBitmaps.{hidden_part_painted, hidden_part_painted_report, one_scrolled};
+ghost use Rattle.lw_cases.specs.SuperBitmaps.{one_scrolled_report};
 
 /// A portion stays in its bitmap on every side, and no other layer has one.
 pub fn portion_stays_on_every_side()

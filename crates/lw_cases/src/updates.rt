@@ -4,7 +4,10 @@
 ghost use Rattle.std.specs.Prelude.{◌≡◌, []};
 ghost use Rattle.lw_calls.specs.Entries.{only_order};
 ghost use Rattle.lw_machine.specs.Report.{run_report};
-ghost use Rattle.lw_cases.specs.Updates.{updated_in_part, updated_in_part_report, updated_in_full, updated_in_full_report, damaged_by_scroll, damaged_by_scroll_report, asked_after_scroll, asked_after_scroll_report, damaged_untold, damaged_untold_report, updates_refused, updates_refused_report, updated_in_clip, updated_in_clip_report};
+ghost use Rattle.lw_cases.specs.Updates.{updated_in_part, updated_in_part_report, updated_in_full, updated_in_full_report};
+ghost use Rattle.lw_cases.specs.Updates.{damaged_by_scroll, damaged_by_scroll_report, asked_after_scroll};
+ghost use Rattle.lw_cases.specs.Updates.{asked_after_scroll_report, damaged_untold, damaged_untold_report, updates_refused};
+ghost use Rattle.lw_cases.specs.Updates.{updates_refused_report, updated_in_clip, updated_in_clip_report};
 
 /// A window is asked again to refresh after a full refresh, and not after one in part.
 pub fn full_refresh_lets_ask_again()

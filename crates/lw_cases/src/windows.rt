@@ -4,7 +4,10 @@
 ghost use Rattle.std.specs.Prelude.{◌≡◌, []};
 ghost use Rattle.lw_calls.specs.Entries.{only_order};
 ghost use Rattle.lw_machine.specs.Report.{run_report};
-ghost use Rattle.lw_cases.specs.Windows.{asked_to_refresh, asked_to_refresh_report, covered_again, covered_again_report, uncovered_again, uncovered_again_report, active_title, active_title_report, frame_widened, frame_widened_report, frame_too_narrow, frame_too_narrow_report, box_told, box_told_report, activated_behind, activated_behind_report};
+ghost use Rattle.lw_cases.specs.Windows.{asked_to_refresh, asked_to_refresh_report, covered_again, covered_again_report};
+ghost use Rattle.lw_cases.specs.Windows.{uncovered_again, uncovered_again_report, active_title, active_title_report};
+ghost use Rattle.lw_cases.specs.Windows.{frame_widened, frame_widened_report, frame_too_narrow, frame_too_narrow_report};
+ghost use Rattle.lw_cases.specs.Windows.{box_told, box_told_report, activated_behind, activated_behind_report};
 
 /// A window is asked to refresh when some damage is there, and not again before its damage was cleared.
 pub fn refresh_is_asked_once()

@@ -35,7 +35,8 @@ one_cover = rectangle (pos 3) (pos 1) (pos 4) (pos 2)
 
 abbrev pub one_visible : List Rectangle
 one_visible =
-    rectangle (pos 0) (pos 0) (pos 7) (pos 0) ∷ rectangle (pos 0) (pos 1) (pos 2) (pos 2) ∷ rectangle (pos 5) (pos 1) (pos 7) (pos 2)
+    rectangle (pos 0) (pos 0) (pos 7) (pos 0) ∷ rectangle (pos 0) (pos 1) (pos 2) (pos 2)
+    ∷ rectangle (pos 5) (pos 1) (pos 7) (pos 2)
     ∷ rectangle (pos 0) (pos 3) (pos 7) (pos 3) ∷ []
 
 pub record OneCover : Type 0 where

@@ -100,7 +100,8 @@ impl Damage {
     /// Adds the pixels of the region that lie in the inner rectangle. After an error the damage is as before.
     pub fn add(&mut self, alloc: Global, more: &Region) -> Result<(), AllocError>
         ensures pixels { OnOk result
-            ((x y : ℤ) → covers self.new.rects x y ≡ (covers self.old.rects x y || (covers more.now x y && may_lie self.old.inner x y))) }
+            ((x y : ℤ) → covers self.new.rects x y
+            ≡ (covers self.old.rects x y || (covers more.now x y && may_lie self.old.inner x y))) }
         ensures set { OnOk result
             (self.new ≡ record self.old { rects = with_more self.old.inner self.old.rects more.now }) }
         ensures err { OnErr result (self.new ≡ self.old) }

@@ -3,7 +3,8 @@ use Rattle.std.specs.Prelude.{ℕ, List, [], ◌∷◌, ◌++◌, codes, Result,
 use Rattle.std.specs.List.{flat_map}
 use Rattle.lw_screens.specs.Cases.{text}
 use Rattle.lw_grammar.specs.declared.reason.Reason.{Reason}
-use Rattle.lw_grammar.specs.declared.reason.Reason.TheVariants.{UnknownWord, Misplaced, Form as FormReason, Range, NoName, DoubleName, TooMany, NoHook, Missing}
+use Rattle.lw_grammar.specs.declared.reason.Reason.TheVariants.{UnknownWord, Misplaced, Form as FormReason, Range, NoName}
+use Rattle.lw_grammar.specs.declared.reason.Reason.TheVariants.{DoubleName, TooMany, NoHook, Missing}
 use Rattle.lw_display.specs.declared.reason.ShowReason.{ShowReason}
 use Rattle.lw_display.specs.declared.reason.ShowReason.TheVariants.{Line, BadOrder}
 use Rattle.lw_display.specs.Shows.{ShowInput}
@@ -33,7 +34,8 @@ small_script = text (codes "screen 1 1 1/task a/end/order/")
 -- the first screen from row 0 on, and the second from row 2 on
 abbrev pub two_scenes : List ℕ
 two_scenes =
-    text (codes "display 16 4/scene a 0/") ++ marked_script ++ text (codes "endscene/scene b 2/") ++ filled_script ++ text (codes "endscene/")
+    text (codes "display 16 4/scene a 0/") ++ marked_script ++ text (codes "endscene/scene b 2/") ++ filled_script
+    ++ text (codes "endscene/")
 
 abbrev pub two_scenes_text : List ℕ
 two_scenes_text = text (codes "display 16 4 2/rows 0 1 a 0/rows 2 3 b 0/planes 16 4 1/plane 0/0000/6000/ffff/ffff/done/")

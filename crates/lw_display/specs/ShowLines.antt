@@ -1,5 +1,6 @@
 -- The lines of a show that stand in no scene (docs/FORMATS.md has them with an example).
-use Rattle.std.specs.Prelude.{ℕ, ◌&&◌, Bool, true, false, not, nat_lt, if◌then◌else◌, List, [], ◌∷◌, length, codes, bytes_eq, ℤ, pos, negsuc, ◌-ℤ◌, Option, Some, None, option_map}
+use Rattle.std.specs.Prelude.{ℕ, ◌&&◌, Bool, true, false, not, nat_lt, if◌then◌else◌, List, [], ◌∷◌, length, codes, bytes_eq, ℤ}
+use Rattle.std.specs.Prelude.{pos, negsuc, ◌-ℤ◌, Option, Some, None, option_map}
 use Rattle.std.specs.List.{list_any}
 use Rattle.lw_region.specs.Rectangle.{within}
 use Rattle.lw_grammar.specs.Tokens.{Token, NameToken, NumberToken}

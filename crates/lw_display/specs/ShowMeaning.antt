@@ -14,7 +14,8 @@ use Rattle.lw_display.specs.declared.line.Deed.TheVariants.{Drag, ToFront, ToBac
 use Rattle.lw_display.specs.declared.line.OuterLine.{OuterLine}
 use Rattle.lw_display.specs.declared.line.OuterLine.TheVariants.{Sizes as SizesRead, Scene as SceneRead, Act as ActRead}
 use Rattle.lw_display.specs.declared.line.Due.{Due}
-use Rattle.lw_display.specs.declared.line.Due.TheVariants.{Sizes as SizesDue, FirstScene as FirstSceneDue, Scenes as ScenesDue, Acts as ActsDue}
+use Rattle.lw_display.specs.declared.line.Due.TheVariants.{Sizes as SizesDue, FirstScene as FirstSceneDue, Scenes as ScenesDue}
+use Rattle.lw_display.specs.declared.line.Due.TheVariants.{Acts as ActsDue}
 use Rattle.lw_display.specs.ShowLines.{Deed, DraggedBy, PutFirst, PutLast, ShowLine, SizesLine, SceneLine, ActLine}
 use Rattle.lw_display.specs.declared.reason.ShowReason.{ShowReason}
 use Rattle.lw_display.specs.declared.show.Show.{Show}
@@ -25,7 +26,8 @@ use Rattle.lw_display.specs.declared.scene.SceneRead.{SceneRead as SceneTaken}
 use Rattle.lw_display.specs.declared.reading.Next.{Next}
 use Rattle.lw_display.specs.Shows.{ShowInput, scene_names}
 use Rattle.lw_display.specs.ShowAnswers.{scene_meaning, show_meaning}
-use Rattle.lw_display.specs.ShowRule.{Part, SizesAreDue, FirstSceneIsDue, ScenesAreDue, ActsAreDue, ScriptIsDue, OpenScene, ShowTold, show_line_tested, told_with_scene, shown_by}
+use Rattle.lw_display.specs.ShowRule.{Part, SizesAreDue, FirstSceneIsDue, ScenesAreDue, ActsAreDue, ScriptIsDue, OpenScene}
+use Rattle.lw_display.specs.ShowRule.{ShowTold, show_line_tested, told_with_scene, shown_by}
 use Rattle.lw_grammar.specs.Demands.{◌>>=◌}
 
 -- the part in which this is due
@@ -123,7 +125,8 @@ TellsUnended Memory o = Unit {0}
 -- The reader has a further scene.
 pub record AddsScene (name : List ℕ) (top : ℕ) (input : Input) (old new : ShowReader) : Type 0 where
   pub told : (above : ℕ) (script : List (List ℕ)) (v : ShowInput) → v ≡ show_read old
-      → told_of new ≡ told_with_scene (begun name top above script) (in_scene (begun name top above script) v) (input_meaning input)
+      → told_of new
+      ≡ told_with_scene (begun name top above script) (in_scene (begun name top above script) v) (input_meaning input)
   pub named : IsNamed new
 
 -- the scene has the script that was read, or the script's stop is answered

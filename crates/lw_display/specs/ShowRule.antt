@@ -1,10 +1,12 @@
 -- Which bytes are a show, and for all others which is the first bad line, and why (docs/FORMATS.md has it with an example): the
 -- rule of a line, by what the lines above it tell, and the outcome of lines read from the first to the last.
-use Rattle.std.specs.Prelude.{◌≡◌, ℕ, ◌+◌, Bool, true, false, not, if◌then◌else◌, List, [], ◌∷◌, ◌++◌, map, codes, bytes_eq, unsigned_abs, Option, None, Result, Ok, Err, ok_or}
+use Rattle.std.specs.Prelude.{◌≡◌, ℕ, ◌+◌, Bool, true, false, not, if◌then◌else◌, List, [], ◌∷◌, ◌++◌, map, codes, bytes_eq}
+use Rattle.std.specs.Prelude.{unsigned_abs, Option, None, Result, Ok, Err, ok_or}
 use Rattle.lw_calls.specs.Orders.{is_legal}
 use Rattle.lw_grammar.specs.declared.form.Form.TheVariants.{Ordered}
 use Rattle.lw_grammar.specs.declared.reason.Reason.{Reason}
-use Rattle.lw_grammar.specs.declared.reason.Reason.TheVariants.{UnknownWord, Misplaced, Form as FormReason, Range, NoName, DoubleName, TooMany, Missing}
+use Rattle.lw_grammar.specs.declared.reason.Reason.TheVariants.{UnknownWord, Misplaced, Form as FormReason, Range, NoName}
+use Rattle.lw_grammar.specs.declared.reason.Reason.TheVariants.{DoubleName, TooMany, Missing}
 use Rattle.lw_grammar.specs.Lines.{lines}
 use Rattle.lw_grammar.specs.Demands.{◌>>=◌, demand}
 use Rattle.lw_grammar.specs.Tokens.{token_of}
@@ -15,7 +17,8 @@ use Rattle.lw_display.specs.declared.reason.ShowReason.TheVariants.{Line, BadOrd
 use Rattle.lw_display.specs.declared.verb.ShowVerb.{ShowVerb}
 use Rattle.lw_display.specs.declared.verb.ShowVerb.TheVariants.{Display, Scene, Drag, ToFront, ToBack}
 use Rattle.lw_display.specs.Shows.{ShowInput, nothing_shown, scene_names}
-use Rattle.lw_display.specs.ShowLines.{show_verb_of, ShowLine, SizesLine, SceneLine, ActLine, show_line_by, is_show_line_in_range, lacks_scene, names_again, has_room, act_of}
+use Rattle.lw_display.specs.ShowLines.{show_verb_of, ShowLine, SizesLine, SceneLine, ActLine, show_line_by}
+use Rattle.lw_display.specs.ShowLines.{is_show_line_in_range, lacks_scene, names_again, has_room, act_of}
 
 -- A scene that isn't ended: its name, the row at which its screen opens, how many lines stand above its script, and the lines of
 -- its script so far.
@@ -94,7 +97,10 @@ told_with n (SizesLine w h) t =
 told_with n (SceneLine name top) t =
     record t { part = ScriptIsDue (record { name = name; top = unsigned_abs top; above = n; script = [] }) }
 told_with n (ActLine name deed) t =
-    record { part = ActsAreDue; show = record t.show { acts = t.show.acts ++ act_of deed (place_among (scene_names t.show) name) ∷ [] } }
+    record {
+      part = ActsAreDue;
+      show = record t.show { acts = t.show.acts ++ act_of deed (place_among (scene_names t.show) name) ∷ [] };
+    }
 
 -- what is found at a line of this number, or the number with the reason
 abbrev pub on_line : {A : Type 0} → ℕ → Result A Reason → Result A (ℕ × ShowReason)
@@ -106,8 +112,8 @@ abbrev pub bytes_of : List (List ℕ) → List ℕ
 bytes_of [] = []
 bytes_of (line ∷ ls) = line ++ 10 ∷ bytes_of ls
 
--- The outcome of a script, counted in the whole input, where so many lines stand above it: what it is, or its first bad line. Where
--- it ends too early, that is the line after its last one.
+-- The outcome of a script, counted in the whole input, where so many lines stand above it: what it is, or its first bad line.
+-- Where it ends too early, that is the line after its last one.
 abbrev pub counted_from : {A : Type 0} → ℕ → Result A (ℕ × Reason) → Result A (ℕ × ShowReason)
 counted_from above (Ok a) = Ok a
 counted_from above (Err (n, reason)) = Err (above + n, Line reason)

@@ -2,7 +2,8 @@
 #![tactic(auto, unfolding(crate::proofs::Computing::reading))]
 
 ghost use Rattle.std.specs.Prelude.{◌≡◌, ◌++◌, codes};
-ghost use Rattle.lw_display.specs.ShowCases.{AreBadShows, not_here, not_known, not_formed, not_in_range, not_named, bad_scripts, unfinished, bad_orders};
+ghost use Rattle.lw_display.specs.ShowCases.{AreBadShows, not_here, not_known, not_formed, not_in_range, not_named};
+ghost use Rattle.lw_display.specs.ShowCases.{bad_scripts, unfinished, bad_orders};
 
 /// Lines stand in their parts: what is due, and lines of scripts in scenes alone.
 pub fn lines_stand_in_their_parts()

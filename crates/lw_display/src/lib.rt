@@ -1,7 +1,7 @@
 //! Shows: a display with scenes, each of them a script with an order, and what is then done to their screens.
 //!
-//! `specs/ShowRule.antt` says which bytes are a show, and for all others which is the first bad line, and why; `ShowTexts.antt` what
-//! a show writes.
+//! `specs/ShowRule.antt` says which bytes are a show, and for all others which is the first bad line, and why; `ShowTexts.antt`
+//! what a show writes.
 #![tactic(auto)]
 
 mod cases;

@@ -1,6 +1,7 @@
 //! Reads a show from its first line to its last.
 
-ghost use Rattle.std.specs.Prelude.{◌≡◌, ℕ, ◌+◌, ◌<◌, ◌≤◌, ◌∷◌, false, List, length, bytes_eq, pos, ◌-ℤ◌, unsigned_abs, IsTrue, IfOk, OnOk, Err};
+ghost use Rattle.std.specs.Prelude.{◌≡◌, ℕ, ◌+◌, ◌<◌, ◌≤◌, ◌∷◌, false, List, length, bytes_eq, pos, ◌-ℤ◌, unsigned_abs, IsTrue};
+ghost use Rattle.std.specs.Prelude.{IfOk, OnOk, Err};
 ghost use Rattle.std.specs.List.{list_any};
 ghost use Rattle.lw_region.specs.Rectangle.{within};
 ghost use Rattle.lw_grammar.specs.Lines.{lines};
@@ -8,8 +9,10 @@ ghost use Rattle.lw_words.specs.Cuts.{targets};
 ghost use Rattle.lw_display.specs.declared.reason.ShowReason.{ShowReason as ReasonValue};
 ghost use Rattle.lw_display.specs.Shows.{ShowInput};
 ghost use Rattle.lw_display.specs.ShowLines.{SizesLine, SceneLine, ActLine};
-ghost use Rattle.lw_display.specs.ShowRule.{show_line_tested, show_line_of_words, show_line_read, told_with, show_ended, shown_by, show_of, IsShow, IsBadShow};
-ghost use Rattle.lw_display.specs.ShowMeaning.{deed_meaning, outer_meaning, show_read, told_of, IsNamed, due_meaning, ReadsOuter, if_tested, GivesShow, LeadsOn, AddsScene, KeepsScene, Passes};
+ghost use Rattle.lw_display.specs.ShowRule.{show_line_tested, show_line_of_words, show_line_read, told_with, show_ended};
+ghost use Rattle.lw_display.specs.ShowRule.{shown_by, show_of, IsShow, IsBadShow};
+ghost use Rattle.lw_display.specs.ShowMeaning.{deed_meaning, outer_meaning, show_read, told_of, IsNamed, due_meaning};
+ghost use Rattle.lw_display.specs.ShowMeaning.{ReadsOuter, if_tested, GivesShow, LeadsOn, AddsScene, KeepsScene, Passes};
 ghost use Rattle.lw_display.specs.ShowAnswers.{show_meaning, OnlyGives, OnlyRefuses};
 
 use crate::line::{Deed, Due, OuterLine, outer_line};
@@ -185,7 +188,8 @@ impl<'a> ShowReader<'a> {
         requires few { length behind.now + 1 < 4294967295 }
         requires passes { Passes (show_read self.old) (SceneLine name.now top) }
         requires named { IsNamed self.old }
-        ensures { LeadsOn (told_with number (SceneLine name.entry.now top) (told_of self.old)) (number + 1) (lines behind.entry.now)
+        ensures { LeadsOn (told_with number (SceneLine name.entry.now top) (told_of self.old)) (number + 1)
+            (lines behind.entry.now)
             (number + 1) behind.entry.now self.new result }
     {
         let row = self.top_row(top);

@@ -8,7 +8,8 @@ use Rattle.lw_draw.specs.declared.overlay.Overlay.{Overlay}
 -- a bit of so many bytes lies over the pixel
 abbrev pub is_over : Overlay → ℕ → ℕ → ℕ → Bool
 is_over o count x y =
-    (nat_le o.column x && nat_lt (o.bit + (x - o.column)) (8 * o.step)) && (nat_le o.row y && nat_le ((y - o.row + 1) * o.step) count)
+    (nat_le o.column x && nat_lt (o.bit + (x - o.column)) (8 * o.step))
+    && (nat_le o.row y && nat_le ((y - o.row + 1) * o.step) count)
 
 -- the bit that lies over the pixel
 abbrev pub over_bit : List ℕ → Overlay → ℕ → ℕ → ℕ

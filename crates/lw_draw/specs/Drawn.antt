@@ -12,7 +12,8 @@ use Rattle.lw_layer.specs.View.{LiveView, draws, repainted}
 -- other bit, and all else, is as it was.
 unfoldable pub drawn : (ℕ → ℕ → ℕ → Bool) → (ℕ → ℕ → ℕ → ℕ → ℕ) → LiveView → LiveView
 drawn on new c =
-    repainted (λ x y. pen_of c.layer.bits.depth (λ p. if on p x y then new p x y (bit_at (pen_at c.layer.bits x y) p) else bit_at (pen_at c.layer.bits x y) p)) c
+    repainted (λ x y. pen_of c.layer.bits.depth
+    (λ p. if on p x y then new p x y (bit_at (pen_at c.layer.bits x y) p) else bit_at (pen_at c.layer.bits x y) p)) c
 
 -- of a bit these make a bit
 abbrev pub GivesBits : (ℕ → ℕ → ℕ → ℕ → ℕ) → Type 0

@@ -29,7 +29,8 @@ IsFirstStep line moved first = (i : ℕ) → i ≤ wide line → nat_le first i 
 pub record IsFlatRow (line : Line) (y : ℤ) (past : Quotient) : Type 0 where
   pub some : 0 < high line
   pub flat : high line ≤ wide line
-  pub quotient : IsQuotient (2 * (rows_before line y * wide line) + (wide line + 2 * high line - 1)) (2 * wide line) (2 * high line) past
+  pub quotient : IsQuotient (2 * (rows_before line y * wide line) + (wide line + 2 * high line - 1)) (2 * wide line)
+      (2 * high line) past
 
 -- The long axis is that of y, and the quotient is how far the line has moved on that of x: rows_before * wide / high, rounded to
 -- the nearest whole number, and a half up.

@@ -1,6 +1,7 @@
 -- What a call makes of LayerInfo, the shelf of hooks and all slots (`IsAllStep`, `DropHooks`, `ReplacesHook`), and words of this
 -- crate's private contracts.
-use Rattle.std.specs.Prelude.{◌≡◌, ℕ, ◌<◌, ◌≤◌, ◌==◌, Bool, true, not, ◌||◌, if◌then◌else◌, List, [], ◌∷◌, length, map, take, slice_set, Option, Some, None}
+use Rattle.std.specs.Prelude.{◌≡◌, ℕ, ◌<◌, ◌≤◌, ◌==◌, Bool, true, not, ◌||◌, if◌then◌else◌, List, [], ◌∷◌, length, map, take}
+use Rattle.std.specs.Prelude.{slice_set, Option, Some, None}
 use Rattle.std.specs.List.{All, slice_index_or}
 use Rattle.lw_calls.specs.Assets.{Assets}
 use Rattle.lw_calls.specs.declared.call.Call.{Call}
@@ -26,7 +27,8 @@ use Rattle.lw_engine.specs.Slots.{hook_in, bare, shelf_without, ReadyView, IsSet
 
 -- What a call on all layers answers and leaves in each desk with these parts and this shelf of hooks, to which this was handed
 -- in.
-abbrev pub IsAllStep : Assets → Stack → List (Option Hook) → List CellView → ℕ → Call → Reply → Stack → List (Option Hook) → List CellView → Type 0
+abbrev pub IsAllStep : Assets → Stack → List (Option Hook) → List CellView → ℕ → Call → Reply → Stack → List (Option Hook)
+    → List CellView → Type 0
 IsAllStep assets v shelf cells task call r new_v new_shelf new_cells =
     (d : Desk) → AreOfDesk v cells d → AreOnShelf shelf d → d.assets ≡ assets
     → (r ≡ reply d task call) × AreOfDesk new_v new_cells (after d task call) × AreOnShelf new_shelf (after d task call)
@@ -34,7 +36,8 @@ IsAllStep assets v shelf cells task call r new_v new_shelf new_cells =
 -- a layer that was deleted has dropped its hook
 abbrev pub DropHooks : List CellView → List CellView → Type 0
 DropHooks slots new =
-    (s : ℕ) → s < length slots → (cell_at slots s).state ≡ view.Live → (cell_at new s).state ≡ view.Closed → hook_in (cell_at new s) ≡ None
+    (s : ℕ) → s < length slots → (cell_at slots s).state ≡ view.Live → (cell_at new s).state ≡ view.Closed
+    → hook_in (cell_at new s) ≡ None
 
 -- a layer whose hook was replaced has the shelf's hook of that number, or none where the shelf hasn't got it, and no former one
 abbrev pub ReplacesHook : Call → List (Option Hook) → List CellView → List CellView → Type 0
@@ -137,7 +140,8 @@ pub record AreChangedAt (order : List ℕ) (becomes : CellView → CellView) (ce
   pub each : (s : ℕ) → cell_at changed s ≡ (if occurrences s order == 0 then cell_at cells s else becomes (cell_at cells s))
 
 -- the first k that are ready were settled, and the others are still there
-pub record AreUnder (becomes : CellView → CellView) (k : ℕ) (slots now : List CellView) (made ready : List ReadyView) : Type 0 where
+pub record AreUnder
+    (becomes : CellView → CellView) (k : ℕ) (slots now : List CellView) (made ready : List ReadyView) : Type 0 where
   pub cells : AreChangedAt (slots_of (take k made)) becomes slots now
   pub many : length ready ≡ length made
   pub still : (i : ℕ) → k ≤ i → slice_index_or ready i nothing_ready ≡ slice_index_or made i nothing_ready

@@ -1,5 +1,6 @@
 -- A slot with the hook of its layer, and what an arrangement makes of it.
-use Rattle.std.specs.Prelude.{◌≡◌, ℕ, Bool, true, false, ◌==◌, not, ◌&&◌, if◌then◌else◌, pos, List, [], length, slice_set, Option, Some, None}
+use Rattle.std.specs.Prelude.{◌≡◌, ℕ, Bool, true, false, ◌==◌, not, ◌&&◌, if◌then◌else◌, pos, List, [], length, slice_set}
+use Rattle.std.specs.Prelude.{Option, Some, None}
 use Rattle.lw_region.specs.Rectangle.{Rectangle}
 use Rattle.lw_region.specs.Bands.{covers}
 use Rattle.lw_calls.specs.declared.call.Call.{Call}
@@ -39,7 +40,8 @@ bare c = hooked None c
 -- the hook that a call asks for the layer in a slot, where it is on the shelf
 abbrev pub asked_hook : List (Option Hook) → Call → ℕ → Option Hook
 asked_hook shelf (Create slot make) n = if n == slot then hook_from (hook_at shelf) make.hook else None
-asked_hook shelf (OpenWindow slot make framed nocare asks title) n = if n == slot then hook_from (hook_at shelf) make.hook else None
+asked_hook shelf (OpenWindow slot make framed nocare asks title) n =
+    if n == slot then hook_from (hook_at shelf) make.hook else None
 asked_hook shelf call n = None
 
 -- the shelf without a hook that is asked for, and after an arrangement that is done
@@ -108,8 +110,8 @@ abbrev pub followed : List (List ℕ) → WindowAfter → Across → LiveView �
 followed glyphs w q c = with_window_told q (with_frame_if w.frame glyphs w.active (with_activity w.active c))
 
 -- What is ready to be made of a slot: its number, what was prepared for its cell, the strips that it gives up, the rectangles of
--- those that it claims, the pixels that are then filled, the hook of a new layer, and what becomes of the window of one that stays
--- live.
+-- those that it claims, the pixels that are then filled, the hook of a new layer, and what becomes of the window of one that
+-- stays live.
 pub record ReadyView : Type 0 where
   pub slot : ℕ
   pub prepared : Becomes
@@ -122,7 +124,8 @@ pub record ReadyView : Type 0 where
 -- the one slot becomes the other, whose layer stays as it is if there is one: its window is told
 abbrev pub IsStill : List (List ℕ) → CellView → CellView → WindowAfter → State → Type 0
 IsStill glyphs from to w view.Unopened = to ≡ from
-IsStill glyphs from to w view.Live = HasRoom 5 from × (q : Across) × IsDone q w.change × (to ≡ with_live (followed glyphs w q) from)
+IsStill glyphs from to w view.Live =
+    HasRoom 5 from × (q : Across) × IsDone q w.change × (to ≡ with_live (followed glyphs w q) from)
 IsStill glyphs from to w view.Closed = to ≡ from
 
 -- the one slot becomes the other by what is ready for it

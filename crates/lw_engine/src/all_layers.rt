@@ -1,4 +1,5 @@
-ghost use Rattle.std.specs.Prelude.{◌≡◌, ℕ, ◌+◌, ◌<◌, ◌≤◌, true, false, [], length, map, replicate, sum_by, option_map, None, IsOk, IfOk, OnOk, OnErr, IsTrue};
+ghost use Rattle.std.specs.Prelude.{◌≡◌, ℕ, ◌+◌, ◌<◌, ◌≤◌, true, false, [], length, map, replicate, sum_by, option_map, None};
+ghost use Rattle.std.specs.Prelude.{IsOk, IfOk, OnOk, OnErr, IsTrue};
 ghost use Rattle.std.specs.List.{slice_set};
 ghost use Rattle.lw_region.specs.Rectangle.{Rectangle};
 ghost use Rattle.lw_calls.specs.Limits.{call_fits};
@@ -18,7 +19,9 @@ ghost use Rattle.lw_arrange.specs.Areas.{HasArea};
 ghost use Rattle.lw_arrange.specs.Pieces.{ArePieces};
 ghost use Rattle.lw_engine.specs.Desks.{AreNumbered, AreOfDesk, AreAsBefore, hook_at, cell_at};
 ghost use Rattle.lw_engine.specs.Slots.{shelf_without, shelf_after, slot_after, IsReadyFor, IsSettled, MayBeReady};
-ghost use Rattle.lw_engine.specs.Arranging.{AreLooks, AreListed, IsTruth, HasSlot, IsFreshSlot, AreMade, AreReady, AreSettled, slots_of, with_taken, given_to, given_up, AreChanged, AreChangedAt, IsAllStep, DropHooks, IsHookSet, ReplacesHook};
+ghost use Rattle.lw_engine.specs.Arranging.{AreLooks, AreListed, IsTruth, HasSlot, IsFreshSlot, AreMade, AreReady, AreSettled};
+ghost use Rattle.lw_engine.specs.Arranging.{slots_of, with_taken, given_to, given_up, AreChanged, AreChangedAt, IsAllStep};
+ghost use Rattle.lw_engine.specs.Arranging.{DropHooks, IsHookSet, ReplacesHook};
 
 use crate::ready::Ready;
 use crate::slot::Slot;
@@ -50,7 +53,8 @@ pub fn on_all<B: Backfill>(
     requires fits { IsTrue (call_fits info.old.sizes call.now) }
     requires cells { AreNumbered info.old.sizes.slots slots.old }
     requires desk { (d : Desk) × AreOfDesk info.old slots.old d }
-    ensures step { IfOk result (λ r. IsAllStep assets.now info.old shelf.old slots.old task call.now r info.new shelf.new slots.new) }
+    ensures step { IfOk result
+        (λ r. IsAllStep assets.now info.old shelf.old slots.old task call.now r info.new shelf.new slots.new) }
     ensures sizes { info.new.sizes ≡ info.old.sizes }
     ensures cells { AreNumbered info.new.sizes.slots slots.new }
     ensures dropped { DropHooks slots.old slots.new }
@@ -93,7 +97,8 @@ fn plan_and_arrange<B: Backfill>(
     requires fits { IsTrue (call_fits info.old.sizes call.now) }
     requires cells { AreNumbered info.old.sizes.slots slots.old }
     requires desk { (d : Desk) × AreOfDesk info.old slots.old d }
-    ensures step { IfOk result (λ r. IsAllStep assets.now info.old shelf.old slots.old task call.now r info.new shelf.new slots.new) }
+    ensures step { IfOk result
+        (λ r. IsAllStep assets.now info.old shelf.old slots.old task call.now r info.new shelf.new slots.new) }
     ensures sizes { info.new.sizes ≡ info.old.sizes }
     ensures cells { AreNumbered info.new.sizes.slots slots.new }
     ensures dropped { DropHooks slots.old slots.new }

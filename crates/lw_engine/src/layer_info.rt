@@ -6,8 +6,8 @@ use lw_backfill::{Backfill, Shelf};
 use lw_stack::Info;
 use std::marker::Model;
 
-/// LayerInfo, and beside it the hooks that no call took (the manual's Layers Library chapter: the `Layer_Info` structure; the shelf
-/// of hooks is this project's own). Contracts see the list of layers and the shelf.
+/// LayerInfo, and beside it the hooks that no call took (the manual's Layers Library chapter: the `Layer_Info` structure; the
+/// shelf of hooks is this project's own). Contracts see the list of layers and the shelf.
 #[derive(Drop)]
 pub struct LayerInfo<B: Backfill> {
     pub(crate) info: Info,

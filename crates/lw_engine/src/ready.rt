@@ -1,6 +1,7 @@
 // What an arrangement makes of one slot, in two steps: making it ready takes all the memory, and settling it takes none.
 
-ghost use Rattle.std.specs.Prelude.{◌≡◌, ◌+◌, ◌-◌, ◌<◌, ◌≤◌, ◌==◌, ◌++◌, reverse, length, ◌||◌, option_map, is_some, true, false, if◌then◌else◌, [], IfOk};
+ghost use Rattle.std.specs.Prelude.{◌≡◌, ◌+◌, ◌-◌, ◌<◌, ◌≤◌, ◌==◌, ◌++◌, reverse, length, ◌||◌, option_map, is_some, true};
+ghost use Rattle.std.specs.Prelude.{false, if◌then◌else◌, [], IfOk};
 ghost use Rattle.lw_region.specs.Rectangle.{Rectangle};
 ghost use Rattle.lw_strips.specs.Pools.{copies, copies_in};
 ghost use Rattle.lw_machine.specs.Arrangement.{hook_from};
@@ -18,7 +19,8 @@ ghost use Rattle.lw_arrange.specs.Prepared.{cell_after, MayPrepare};
 ghost use Rattle.lw_arrange.specs.Areas.{IsShownElsewhere};
 ghost use Rattle.lw_arrange.specs.Filled.{AreGained};
 ghost use Rattle.lw_engine.specs.Desks.{hook_at};
-ghost use Rattle.lw_engine.specs.Slots.{asked_hook, bare, filled_as, followed, hook_in, nothing_ready, IsStill, IsSettled, IsReadyFor, MayBeReady};
+ghost use Rattle.lw_engine.specs.Slots.{asked_hook, bare, filled_as, followed, hook_in, nothing_ready, IsStill, IsSettled};
+ghost use Rattle.lw_engine.specs.Slots.{IsReadyFor, MayBeReady};
 
 use crate::slot::Slot;
 use crate::window_after::{WindowAfter, follow, window_after};
@@ -52,7 +54,15 @@ impl<B: Backfill> Model for Ready<B> {
 
     ghost Value = { ReadyView };
 
-    ghost view = { λ r. record { slot = r.slot; prepared = r.prepared; lost = r.exchange.lost.items; claims = r.exchange.gained.items; gained = r.gained; taken = option_map B.hook r.taken; window = r.window } };
+    ghost view = { λ r. record {
+      slot = r.slot;
+      prepared = r.prepared;
+      lost = r.exchange.lost.items;
+      claims = r.exchange.gained.items;
+      gained = r.gained;
+      taken = option_map B.hook r.taken;
+      window = r.window;
+    } };
 }
 
 impl<B: Backfill> Ready<B> {
@@ -319,7 +329,8 @@ fn is_there<B: Backfill>(shelf: &Shelf<B>, hook: Option<u32>) -> bool
 
 // Has the pixels filled with the layer's hook, if it has one, which then turns if there are some, and else with pen 0.
 fn fill_gained<B: Backfill>(layer: &mut Layer, held: &mut Option<B>, gained: &Region)
-    ensures { with_layer (λ l. record l { hook = option_map B.hook held.new }) layer.new ≡ filled_as (option_map B.hook held.old) gained.now layer.old }
+    ensures { with_layer (λ l. record l { hook = option_map B.hook held.new }) layer.new
+        ≡ filled_as (option_map B.hook held.old) gained.now layer.old }
 {
     // Reading this tells the proof that the layer has only pens of its depth.
     let _ = layer.depth();

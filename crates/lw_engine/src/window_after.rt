@@ -50,13 +50,14 @@ impl WindowAfter {
     }
 }
 
-/// What becomes of the window that the slot's layer is, if it stays live, where these are the pixels that it gains, whatever hook the
-/// layer has.
+/// What becomes of the window that the slot's layer is, if it stays live, where these are the pixels that it gains, whatever hook
+/// the layer has.
 pub(crate) fn window_after(cell: &Cell, arrangement: &Arrangement, gained: &Region) -> WindowAfter
     requires may { MayPrepare arrangement.now cell.now }
     requires gained { cell.now.state ≡ view.Live → is_framed cell.now.live.layer.window ≡ true
         → AreGained cell.now (cell_after arrangement.now cell.now) gained.now }
-    ensures { cell.now.state ≡ view.Live → (h : Option Hook) (r : Rectangle) → bounds_at arrangement.now.stack.bounds cell.now.number ≡ Some r
+    ensures { cell.now.state ≡ view.Live → (h : Option Hook) (r : Rectangle)
+        → bounds_at arrangement.now.stack.bounds cell.now.number ≡ Some r
         → IsWindowAfter arrangement.now (hooked h cell.now) r result }
 {
     let Some(look) = cell.look() else {

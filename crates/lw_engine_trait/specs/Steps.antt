@@ -38,28 +38,34 @@ module _ {Info Cell Regs : Type 0} (relations : Relations Info Cell Regs) where
 
   -- a look at LayerInfo
   abbrev pub IsLookStep : Sizes → Assets → Info → Call → Reply → Type 0
-  IsLookStep sizes assets info call r = (d : Desk) (task : ℕ) → IsDeskOf sizes assets d → relations.info_is sizes info (info_part d) → r ≡ reply d task call
+  IsLookStep sizes assets info call r =
+      (d : Desk) (task : ℕ) → IsDeskOf sizes assets d → relations.info_is sizes info (info_part d) → r ≡ reply d task call
 
   -- a call of a task on the layer of a cell
   abbrev pub IsOneStep : Sizes → Assets → Cell → Regs → ℕ → Call → Reply → Cell → Type 0
   IsOneStep sizes assets old regs task call r new =
-      (d : Desk) → IsDeskOf sizes assets d → relations.cell_is old (slot_part d (relations.number old)) → relations.regs_is regs (d.registers task)
+      (d : Desk) → IsDeskOf sizes assets d → relations.cell_is old (slot_part d (relations.number old))
+      → relations.regs_is regs (d.registers task)
       → (r ≡ reply d task call) × relations.cell_is new (slot_part (after d task call) (relations.number old))
 
   -- a call on two layers, of which it reads the first alone and leaves it as it is
   abbrev pub IsTwoStep : Sizes → Assets → Cell → Cell → Call → Reply → Cell → Type 0
   IsTwoStep sizes assets source old call r new =
       (d : Desk) (task : ℕ) → IsDeskOf sizes assets d
-      → relations.cell_is source (slot_part d (relations.number source)) → relations.cell_is old (slot_part d (relations.number old))
+      → relations.cell_is source (slot_part d (relations.number source))
+      → relations.cell_is old (slot_part d (relations.number old))
       → (r ≡ reply d task call) × relations.cell_is source (slot_part (after d task call) (relations.number source))
       × relations.cell_is new (slot_part (after d task call) (relations.number old))
 
   -- the cells have the numbers from 0 on, and each stands for its slot's part of the desk
   abbrev pub AreCells : List Cell → Desk → Type 0
-  AreCells cells d = (s : ℕ) (c : Cell) → slice_get cells s ≡ Some c → (relations.number c ≡ s) × relations.cell_is c (slot_part d s)
+  AreCells cells d =
+      (s : ℕ) (c : Cell) → slice_get cells s ≡ Some c → (relations.number c ≡ s) × relations.cell_is c (slot_part d s)
 
 -- LayerInfo and the cells of all slots stand for their parts of a sound desk.
-pub record AreParts {Info Cell Regs : Type 0} (relations : Relations Info Cell Regs) (all_sizes : Sizes) (handed : Assets) (layers : Info) (all : List Cell) (d : Desk) : Type 0 where
+pub record AreParts
+    {Info Cell Regs : Type 0} (relations : Relations Info Cell Regs) (all_sizes : Sizes) (handed : Assets) (layers : Info)
+    (all : List Cell) (d : Desk) : Type 0 where
   pub desk : IsDeskOf all_sizes handed d
   pub many : length all ≡ all_sizes.slots
   pub info : relations.info_is all_sizes layers (info_part d)

@@ -6,16 +6,17 @@ ghost use Rattle.lw_calls.specs.declared.touch.CallClass.TheVariants.{OnRegister
 ghost use Rattle.lw_calls.specs.Touches.{class_of};
 ghost use Rattle.lw_machine.specs.Desk.{Desk};
 ghost use Rattle.lw_engine_trait.specs.Memory.{takes_memory};
-ghost use Rattle.lw_engine_trait.specs.Steps.{Relations, IsRegsStep, IsLookStep, IsOneStep, IsTwoStep, AreParts, IsAllStep, AreStill};
+ghost use Rattle.lw_engine_trait.specs.Steps.{Relations, IsRegsStep, IsLookStep, IsOneStep, IsTwoStep, AreParts, IsAllStep};
+ghost use Rattle.lw_engine_trait.specs.Steps.{AreStill};
 
 use lw_calls::{Call, Reply};
 use std::alloc::{AllocError, Global};
 
 /// The step of the machine, by the classes of calls. An engine says which values stand for a task's registers,
-/// for a slot and for LayerInfo; each of its functions is lent the values that a call of its class touches, and makes the machine's
-/// step of them in every sound desk for whose parts they stand, with the engine's sizes, and to which its assets were handed in. It
-/// takes no lock and returns. It fails only when out of memory, which a call that takes none never is, and the values are then as
-/// before; those of all slots stand for the desks that they stood for.
+/// for a slot and for LayerInfo; each of its functions is lent the values that a call of its class touches, and makes the
+/// machine's step of them in every sound desk for whose parts they stand, with the engine's sizes, and to which its assets were
+/// handed in. It takes no lock and returns. It fails only when out of memory, which a call that takes none never is, and the
+/// values are then as before; those of all slots stand for the desks that they stood for.
 pub trait Engine: Drop + Sync {
     /// What LayerInfo keeps.
     type Info: Drop + Send;
@@ -69,8 +70,9 @@ pub trait Engine: Drop + Sync {
         ensures number { relations.number to.new ≡ relations.number to.old };
 
     /// Makes a call on the layers of all slots, whose cells are given in rising number. After it ran out of memory the parts
-    /// stand for the same desks as before. They need not be the same values: room that was made in a cell before another cell's ran out
-    /// may stay, and no desk tells of room. An engine's own function may say more, as that all is as before but for such room.
+    /// stand for the same desks as before. They need not be the same values: room that was made in a cell before another cell's
+    /// ran out may stay, and no desk tells of room. An engine's own function may say more, as that all is as before but for such
+    /// room.
     fn all(
         &self,
         alloc: Global,
@@ -84,6 +86,7 @@ pub trait Engine: Drop + Sync {
         requires desk { (d : Desk) × AreParts relations (sizes self.now) (assets self.now) info.old cells.old d }
         ensures step { IfOk result (λ r.
             IsAllStep relations (sizes self.now) (assets self.now) info.old cells.old task call.now r info.new cells.new) }
-        ensures unchanged { OnErr result (AreStill relations (sizes self.now) (assets self.now) info.old cells.old info.new cells.new) }
+        ensures unchanged { OnErr result
+            (AreStill relations (sizes self.now) (assets self.now) info.old cells.old info.new cells.new) }
         ensures memory { takes_memory call.now ≡ false → IsOk result };
 }

@@ -1,5 +1,5 @@
-//! The step of each class of calls as a trait, `Engine`: what locks ask of the parts that lie behind them. The trait speaks of the
-//! machine's desks alone, and says nothing of threads.
+//! The step of each class of calls as a trait, `Engine`: what locks ask of the parts that lie behind them. The trait speaks of
+//! the machine's desks alone, and says nothing of threads.
 #![tactic(auto)]
 
 mod engine;

@@ -15,7 +15,8 @@ top_set v s = pixels_where v.sizes.width v.sizes.height (λ x y. is_top_in v s (
 -- what is seen of a live layer that is visible there, and nothing of a slot that isn't live
 abbrev pub seen_as : State → List Rectangle → LiveView → Option Seen
 seen_as Unopened visible c = None
-seen_as Live visible c = Some (record { visible = visible; damage = bands (damage_set c.layer); messages = port_of c.layer.window })
+seen_as Live visible c =
+    Some (record { visible = visible; damage = bands (damage_set c.layer); messages = port_of c.layer.window })
 seen_as Closed visible c = None
 
 -- what is seen of a cell

@@ -11,9 +11,9 @@ use lw_calls::Message;
 use lw_layer::{Layer, WindowDraft};
 use lw_windows::{Change, Classes, due};
 
-/// Puts the messages that the window is due that the layer is, if it is one, in the order of the machine (newsize, change, inactive,
-/// active, refresh), after an arrangement that changed it so; whether it has some damage is looked up. The port needs room for five
-/// messages. No memory is taken.
+/// Puts the messages that the window is due that the layer is, if it is one, in the order of the machine (newsize, change,
+/// inactive, active, refresh), after an arrangement that changed it so; whether it has some damage is looked up. The port needs
+/// room for five messages. No memory is taken.
 pub fn tell(layer: &mut Layer, change: &Change)
     requires room { is_window layer.old.layer.window ≡ true → 5 ≤ layer.old.room }
     ensures { (c : Across) → IsDone c change.now → layer.new ≡ with_window_told c layer.old }

@@ -7,8 +7,12 @@ use Rattle.lw_calls.specs.Limits.{is_minterm}
 use Rattle.lw_calls.specs.Kinds.{is_super}
 use Rattle.lw_grammar.specs.declared.form.Form.{Form}
 use Rattle.lw_grammar.specs.declared.verb.Verb.TheVariants.{Part, Number}
-use Rattle.lw_grammar.specs.declared.verb.PartVerb.TheVariants.{Layers as LayersVerb, Screen as ScreenVerb, Glyph as GlyphVerb, Bitmap as BitmapVerb, Pattern as PatternVerb, Task as TaskVerb, Order as OrderVerb, Report as ReportVerb}
-use Rattle.lw_grammar.specs.Statements.{NewLayer, Act, NumberAct, CreateAct, OpenAct, PutAct, BlitAct, layers_of, numbers_limit, Statement, LayersLine, ScreenLine, GlyphLine, BitmapLine, RowLine, PatternLine, TaskLine, OrderLine, NumbersLine, ReportLine, CallLine}
+use Rattle.lw_grammar.specs.declared.verb.PartVerb.TheVariants.{Layers as LayersVerb, Screen as ScreenVerb, Glyph as GlyphVerb}
+use Rattle.lw_grammar.specs.declared.verb.PartVerb.TheVariants.{Bitmap as BitmapVerb, Pattern as PatternVerb, Task as TaskVerb}
+use Rattle.lw_grammar.specs.declared.verb.PartVerb.TheVariants.{Order as OrderVerb, Report as ReportVerb}
+use Rattle.lw_grammar.specs.Statements.{NewLayer, Act, NumberAct, CreateAct, OpenAct, PutAct, BlitAct, layers_of, numbers_limit}
+use Rattle.lw_grammar.specs.Statements.{Statement, LayersLine, ScreenLine, GlyphLine, BitmapLine, RowLine, PatternLine}
+use Rattle.lw_grammar.specs.Statements.{TaskLine, OrderLine, NumbersLine, ReportLine, CallLine}
 use Rattle.lw_grammar.specs.Told.{Section, told}
 use Rattle.lw_grammar.specs.Script.{Setting, are_calls_due, are_numbers_due, is_known_in, belongs_in, statement_tested}
 

@@ -1,7 +1,9 @@
 -- The grammar of scripts (docs/FORMATS.md has it with an example): the rule of a line, by what the
 -- lines above it tell, and the outcome of lines read from the first to the last, which is an input, or the first bad line with
 -- its first reason.
-use Rattle.std.specs.Prelude.{◌≡◌, ℕ, ◌+◌, ◌-◌, ◌*◌, ◌≤◌, ◌==◌, Bool, true, false, not, ◌&&◌, ◌||◌, nat_le, nat_lt, min, if◌then◌else◌, List, [], ◌∷◌, length, map, ℤ, unsigned_abs, Option, Some, None, option_map, is_none, Result, Ok, Err, ok_or, bytes_eq, ◌⊎◌, All}
+use Rattle.std.specs.Prelude.{◌≡◌, ℕ, ◌+◌, ◌-◌, ◌*◌, ◌≤◌, ◌==◌, Bool, true, false, not, ◌&&◌, ◌||◌, nat_le, nat_lt, min}
+use Rattle.std.specs.Prelude.{if◌then◌else◌, List, [], ◌∷◌, length, map, ℤ, unsigned_abs, Option, Some, None, option_map}
+use Rattle.std.specs.Prelude.{is_none, Result, Ok, Err, ok_or, bytes_eq, ◌⊎◌, All}
 use Rattle.std.specs.List.{list_any, list_all, range_with_len}
 use Rattle.lw_planes.specs.Row.{row_bit}
 use Rattle.lw_area.specs.declared.point.Point.{Point}
@@ -9,12 +11,17 @@ use Rattle.lw_area.specs.Polygons.{is_in_range}
 use Rattle.lw_grammar.specs.declared.form.Form.{Form}
 use Rattle.lw_grammar.specs.declared.form.Form.TheVariants.{Plain, Ordered, Audited}
 use Rattle.lw_grammar.specs.declared.reason.Reason.{Reason}
-use Rattle.lw_grammar.specs.declared.reason.Reason.TheVariants.{LineTooLong, BadByte, UnknownWord, Misplaced, Form as FormReason, Range, NoName, DoubleName, Gzz as GzzReason, Group, TooMany, NoHook, HookUsed, Padding, Missing}
+use Rattle.lw_grammar.specs.declared.reason.Reason.TheVariants.{LineTooLong, BadByte, UnknownWord, Misplaced}
+use Rattle.lw_grammar.specs.declared.reason.Reason.TheVariants.{Form as FormReason, Range, NoName, DoubleName, Gzz as GzzReason}
+use Rattle.lw_grammar.specs.declared.reason.Reason.TheVariants.{Group, TooMany, NoHook, HookUsed, Padding, Missing}
 use Rattle.lw_grammar.specs.declared.verb.Verb.{Verb}
 use Rattle.lw_grammar.specs.declared.verb.Verb.TheVariants.{Part, Number, Area as AreaVerb, AreaPattern as AreaPatternVerb, Gzz}
-use Rattle.lw_grammar.specs.declared.verb.PartVerb.TheVariants.{Layers as LayersVerb, Screen as ScreenVerb, Glyph as GlyphVerb, Bitmap as BitmapVerb, Pattern as PatternVerb, Task as TaskVerb, Order as OrderVerb, Report as ReportVerb}
+use Rattle.lw_grammar.specs.declared.verb.PartVerb.TheVariants.{Layers as LayersVerb, Screen as ScreenVerb, Glyph as GlyphVerb}
+use Rattle.lw_grammar.specs.declared.verb.PartVerb.TheVariants.{Bitmap as BitmapVerb, Pattern as PatternVerb, Task as TaskVerb}
+use Rattle.lw_grammar.specs.declared.verb.PartVerb.TheVariants.{Order as OrderVerb, Report as ReportVerb}
 use Rattle.lw_grammar.specs.declared.verb.NumberVerb.TheVariants.{Hook as HookVerb}
-use Rattle.lw_grammar.specs.declared.verb.BareVerb.TheVariants.{Close as CloseVerb, Front as FrontVerb, Behind as BehindVerb, Activate as ActivateVerb, Refresh as RefreshVerb}
+use Rattle.lw_grammar.specs.declared.verb.BareVerb.TheVariants.{Close as CloseVerb, Front as FrontVerb, Behind as BehindVerb}
+use Rattle.lw_grammar.specs.declared.verb.BareVerb.TheVariants.{Activate as ActivateVerb, Refresh as RefreshVerb}
 use Rattle.lw_grammar.specs.declared.verb.PairVerb.TheVariants.{Move as MoveVerb, Size as SizeVerb}
 use Rattle.lw_calls.specs.declared.limits.Limits.{Limits}
 use Rattle.lw_calls.specs.Limits.{limits_of, may_replace_hooks, task_limit, bitmap_limit}
@@ -23,8 +30,14 @@ use Rattle.lw_grammar.specs.Lines.{lines}
 use Rattle.lw_grammar.specs.Demands.{◌>>=◌, demand}
 use Rattle.lw_grammar.specs.Tokens.{tokens, token_of}
 use Rattle.lw_grammar.specs.Verbs.{verb_of}
-use Rattle.lw_grammar.specs.Statements.{Act, BareAct, NumberAct, PairAct, CreateAct, OpenAct, InFrontAct, BoxAct, PutAct, EndRefreshAct, GzzAct, OpenGzz, InFrontGzz, Statement, GlyphLine, BitmapLine, RowLine, PatternLine, TaskLine, EndLine, CallLine, LockLine, UnlockLine, HoldLine, ReleaseLine, Line, StatementLine, AreaLine, GzzLine, row_line, numbers_line, line_by, is_line_in_range, is_gzz_in_range}
-use Rattle.lw_grammar.specs.Told.{Section, ScreenIsDue, AssetsAreDue, CallsAreDue, TasksAreDue, NumbersAreDue, NothingIsDue, OpenGroup, Locked, Updating, Held, NamedPair, Told, hook_on, told_with, told, stands_for, told_all, plan_of}
+use Rattle.lw_grammar.specs.Statements.{Act, BareAct, NumberAct, PairAct, CreateAct, OpenAct, InFrontAct, BoxAct, PutAct}
+use Rattle.lw_grammar.specs.Statements.{EndRefreshAct, GzzAct, OpenGzz, InFrontGzz, Statement, GlyphLine, BitmapLine, RowLine}
+use Rattle.lw_grammar.specs.Statements.{PatternLine, TaskLine, EndLine, CallLine, LockLine, UnlockLine, HoldLine, ReleaseLine}
+use Rattle.lw_grammar.specs.Statements.{Line, StatementLine, AreaLine, GzzLine, row_line, numbers_line, line_by}
+use Rattle.lw_grammar.specs.Statements.{is_line_in_range, is_gzz_in_range}
+use Rattle.lw_grammar.specs.Told.{Section, ScreenIsDue, AssetsAreDue, CallsAreDue, TasksAreDue, NumbersAreDue, NothingIsDue}
+use Rattle.lw_grammar.specs.Told.{OpenGroup, Locked, Updating, Held, NamedPair, Told, hook_on, told_with, told, stands_for}
+use Rattle.lw_grammar.specs.Told.{told_all, plan_of}
 
 -- What a script is read with: how many hooks are handed in, and what input it stands in.
 pub record Setting : Type 0 where

@@ -1,5 +1,6 @@
 -- The statements of a script's lines.
-use Rattle.std.specs.Prelude.{ℕ, ◌+◌, ◌*◌, ◌%◌, ◌^◌, ◌==◌, Bool, true, false, not, ◌&&◌, nat_le, if◌then◌else◌, List, [], ◌∷◌, length, ℤ, pos, Option, Some, None, option_map, option_and_then, codes, bytes_eq, ◌+ℤ◌, ◌-ℤ◌}
+use Rattle.std.specs.Prelude.{ℕ, ◌+◌, ◌*◌, ◌%◌, ◌^◌, ◌==◌, Bool, true, false, not, ◌&&◌, nat_le, if◌then◌else◌, List, [], ◌∷◌}
+use Rattle.std.specs.Prelude.{length, ℤ, pos, Option, Some, None, option_map, option_and_then, codes, bytes_eq, ◌+ℤ◌, ◌-ℤ◌}
 use Rattle.std.specs.List.{list_all}
 use Rattle.lw_region.specs.Rectangle.{Rectangle, within}
 use Rattle.lw_area.specs.declared.point.Point.{Point}
@@ -14,16 +15,25 @@ use Rattle.lw_calls.specs.declared.make.Place.{Place}
 use Rattle.lw_calls.specs.declared.make.Place.TheVariants.{Front, Behind}
 use Rattle.lw_calls.specs.declared.area.Area.{Area}
 use Rattle.lw_grammar.specs.declared.verb.PartVerb.{PartVerb}
-use Rattle.lw_grammar.specs.declared.verb.PartVerb.TheVariants.{Layers as LayersVerb, Screen as ScreenVerb, Glyph as GlyphVerb, Bitmap as BitmapVerb, Pattern as PatternVerb, Task as TaskVerb, End as EndVerb, Order as OrderVerb, Report as ReportVerb, Lock as LockVerb, Unlock as UnlockVerb, Hold as HoldVerb, Release as ReleaseVerb}
+use Rattle.lw_grammar.specs.declared.verb.PartVerb.TheVariants.{Layers as LayersVerb, Screen as ScreenVerb, Glyph as GlyphVerb}
+use Rattle.lw_grammar.specs.declared.verb.PartVerb.TheVariants.{Bitmap as BitmapVerb, Pattern as PatternVerb, Task as TaskVerb}
+use Rattle.lw_grammar.specs.declared.verb.PartVerb.TheVariants.{End as EndVerb, Order as OrderVerb, Report as ReportVerb}
+use Rattle.lw_grammar.specs.declared.verb.PartVerb.TheVariants.{Lock as LockVerb, Unlock as UnlockVerb, Hold as HoldVerb}
+use Rattle.lw_grammar.specs.declared.verb.PartVerb.TheVariants.{Release as ReleaseVerb}
 use Rattle.lw_grammar.specs.declared.verb.BareVerb.{BareVerb}
 use Rattle.lw_grammar.specs.declared.verb.NumberVerb.{NumberVerb}
-use Rattle.lw_grammar.specs.declared.verb.NumberVerb.TheVariants.{APen as APenVerb, BPen as BPenVerb, Mode as ModeVerb, Mask as MaskVerb, SetRast as SetRastVerb, Clip as ClipVerb, Hook as HookVerb}
+use Rattle.lw_grammar.specs.declared.verb.NumberVerb.TheVariants.{APen as APenVerb, BPen as BPenVerb, Mode as ModeVerb}
+use Rattle.lw_grammar.specs.declared.verb.NumberVerb.TheVariants.{Mask as MaskVerb, SetRast as SetRastVerb, Clip as ClipVerb}
+use Rattle.lw_grammar.specs.declared.verb.NumberVerb.TheVariants.{Hook as HookVerb}
 use Rattle.lw_grammar.specs.declared.verb.PairVerb.{PairVerb}
 use Rattle.lw_grammar.specs.declared.verb.TextVerb.{TextVerb}
 use Rattle.lw_grammar.specs.declared.verb.GzzVerb.{GzzVerb}
-use Rattle.lw_grammar.specs.declared.verb.GzzVerb.TheVariants.{Open as OpenVerb, Box as BoxVerb, Front as FrontVerb, Behind as BehindVerb, InFront as InFrontVerb, Close as CloseVerb}
+use Rattle.lw_grammar.specs.declared.verb.GzzVerb.TheVariants.{Open as OpenVerb, Box as BoxVerb, Front as FrontVerb}
+use Rattle.lw_grammar.specs.declared.verb.GzzVerb.TheVariants.{Behind as BehindVerb, InFront as InFrontVerb, Close as CloseVerb}
 use Rattle.lw_grammar.specs.declared.verb.Verb.{Verb}
-use Rattle.lw_grammar.specs.declared.verb.Verb.TheVariants.{Part, Bare, Number, Pair, Text, Rect, Region, ClearRegion, Create, Open, InFront, Box, Which, Fill, ScrollRaster, Put, Blit, EndRefresh, Area as AreaVerb, AreaPattern as AreaPatternVerb, Gzz}
+use Rattle.lw_grammar.specs.declared.verb.Verb.TheVariants.{Part, Bare, Number, Pair, Text, Rect, Region, ClearRegion, Create}
+use Rattle.lw_grammar.specs.declared.verb.Verb.TheVariants.{Open, InFront, Box, Which, Fill, ScrollRaster, Put, Blit}
+use Rattle.lw_grammar.specs.declared.verb.Verb.TheVariants.{EndRefresh, Area as AreaVerb, AreaPattern as AreaPatternVerb, Gzz}
 use Rattle.lw_calls.specs.Limits.{limits_of, rect_fits, coordinates_fit, is_extent}
 use Rattle.lw_grammar.specs.Tokens.{Token, NameToken, NumberToken, TextToken, bytes_in}
 
@@ -101,8 +111,8 @@ pub data Statement : Type 0 where
   NameSeen : List ℕ → Statement
   PairMade : List ℕ → List ℕ → Statement
 
--- What a line does with a window of two layers: it opens one, whose inner layer has this name and is of this kind, with a place, a
--- box, classes of messages and a title; it gives it a box; it puts it in front of all others, behind them, or in front of a
+-- What a line does with a window of two layers: it opens one, whose inner layer has this name and is of this kind, with a place,
+-- a box, classes of messages and a title; it gives it a box; it puts it in front of all others, behind them, or in front of a
 -- layer; it closes it. A box is a place, a width and a height.
 pub data GzzAct : Type 0 where
   OpenGzz : List ℕ → Kind → Place → Four → ℕ → List ℕ → GzzAct
@@ -112,8 +122,8 @@ pub data GzzAct : Type 0 where
   InFrontGzz : List ℕ → GzzAct
   CloseGzz : GzzAct
 
--- What a line says, if it isn't skipped: a statement; or what stands for several statements: an area on a layer, by the name of its
--- pattern, or with none, and by its points; or what is done with a window of two layers, by the name of its outer one.
+-- What a line says, if it isn't skipped: a statement; or what stands for several statements: an area on a layer, by the name of
+-- its pattern, or with none, and by its points; or what is done with a window of two layers, by the name of its outer one.
 pub data Line : Type 0 where
   StatementLine : Statement → Line
   AreaLine : List ℕ → Option (List ℕ) → List Point → Line
@@ -478,7 +488,8 @@ opened_gzz g i place box ts kind = let ask = ask_option ts in titled_gzz g i kin
 -- gopen G I KIND PLACE X Y W H ..
 abbrev pub gopen_line : List Token → Option Line
 gopen_line (NameToken g ∷ NameToken i ∷ NameToken k ∷ NameToken p ∷ ts) =
-    option_and_then (λ n. option_and_then (λ place. option_and_then (opened_gzz g i place n.0 n.1) (inner_kind_of k)) (place_of p))
+    option_and_then
+    (λ n. option_and_then (λ place. option_and_then (opened_gzz g i place n.0 n.1) (inner_kind_of k)) (place_of p))
     (four_numbers ts)
 gopen_line _ = None
 

@@ -1,5 +1,6 @@
 -- The words of a line of a script, and what a word is (docs/FORMATS.md has it).
-use Rattle.std.specs.Prelude.{ℕ, ◌+◌, ◌-◌, ◌*◌, ◌==◌, Bool, true, false, ◌&&◌, ◌||◌, nat_le, min, if◌then◌else◌, List, [], ◌∷◌, length, drop, ℤ, pos, neg_ℤ, codes, bytes_eq, Option, Some, None, option_map, Result, Ok, Err}
+use Rattle.std.specs.Prelude.{ℕ, ◌+◌, ◌-◌, ◌*◌, ◌==◌, Bool, true, false, ◌&&◌, ◌||◌, nat_le, min, if◌then◌else◌, List, [], ◌∷◌}
+use Rattle.std.specs.Prelude.{length, drop, ℤ, pos, neg_ℤ, codes, bytes_eq, Option, Some, None, option_map, Result, Ok, Err}
 use Rattle.std.specs.List.{onto_first, list_all}
 use Rattle.std.specs.Str.Parse.{digits_value}
 use Rattle.lw_grammar.specs.declared.reason.Reason.{Reason}

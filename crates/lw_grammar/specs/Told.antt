@@ -1,7 +1,9 @@
 -- What the lines above a line of a script tell: one record, and what each statement adds to
 -- it. Skipped lines and those after a line `report` tell nothing. The lines may be taken to be good, since only a script's
 -- first bad line counts.
-use Rattle.std.specs.Prelude.{ℕ, ◌+◌, ◌-◌, ◌*◌, ◌==◌, Bool, true, false, ◌||◌, if◌then◌else◌, List, [], ◌∷◌, ◌++◌, map, length, ℤ, pos, ◌+ℤ◌, ◌-ℤ◌, unsigned_abs, Option, Some, None, option_map, slice_index, bytes_eq, replicate}
+use Rattle.std.specs.Prelude.{ℕ, ◌+◌, ◌-◌, ◌*◌, ◌==◌, Bool, true, false, ◌||◌, if◌then◌else◌, List, [], ◌∷◌, ◌++◌, map, length}
+use Rattle.std.specs.Prelude.{ℤ, pos, ◌+ℤ◌, ◌-ℤ◌, unsigned_abs, Option, Some, None, option_map, slice_index, bytes_eq}
+use Rattle.std.specs.Prelude.{replicate}
 use Rattle.std.specs.List.{list_any, position_or_len, range_with_len, slice_index_or}
 use Rattle.lw_region.specs.Rectangle.{Rectangle}
 use Rattle.lw_area.specs.Areas.{area_rectangles}
@@ -11,21 +13,37 @@ use Rattle.lw_calls.specs.declared.make.Kind.TheVariants.{Smart}
 use Rattle.lw_calls.specs.declared.make.Make.{Make}
 use Rattle.lw_calls.specs.declared.pair.Pair.{Pair}
 use Rattle.lw_calls.specs.declared.call.Call.{Call}
-use Rattle.lw_calls.specs.declared.call.Call.TheVariants.{RegRect, RegPair, RegClear, Create, OpenWindow, Close, ToFront, ToBack, InFrontOf, MoveBy, SizeBy, SetBox, Activate, SetHook, Which, SetA, SetB, SetMode, SetMask, At, WritePixel, ReadPixel, Fill, DrawTo, Letters, SetRast, ScrollRaster, Put, Blit, Clip, Unclip, BeginRefresh, EndRefresh, Scroll, SetTitle, TakeMessage}
+use Rattle.lw_calls.specs.declared.call.Call.TheVariants.{RegRect, RegPair, RegClear, Create, OpenWindow, Close, ToFront}
+use Rattle.lw_calls.specs.declared.call.Call.TheVariants.{ToBack, InFrontOf, MoveBy, SizeBy, SetBox, Activate, SetHook, Which}
+use Rattle.lw_calls.specs.declared.call.Call.TheVariants.{SetA, SetB, SetMode, SetMask, At, WritePixel, ReadPixel, Fill, DrawTo}
+use Rattle.lw_calls.specs.declared.call.Call.TheVariants.{Letters, SetRast, ScrollRaster, Put, Blit, Clip, Unclip, BeginRefresh}
+use Rattle.lw_calls.specs.declared.call.Call.TheVariants.{EndRefresh, Scroll, SetTitle, TakeMessage}
 use Rattle.lw_calls.specs.declared.group.Hold.{Hold}
 use Rattle.lw_calls.specs.declared.group.Hold.TheVariants.{Slot, All}
 use Rattle.lw_calls.specs.declared.group.Group.{Group}
 use Rattle.lw_calls.specs.Kinds.{is_super}
 use Rattle.lw_calls.specs.Plan.{Plan}
 use Rattle.lw_grammar.specs.declared.verb.BareVerb.{BareVerb}
-use Rattle.lw_grammar.specs.declared.verb.BareVerb.TheVariants.{Close as CloseVerb, Front as FrontVerb, Behind as BehindVerb, Activate as ActivateVerb, Unclip as UnclipVerb, Refresh as RefreshVerb, GetMsg as GetMsgVerb}
+use Rattle.lw_grammar.specs.declared.verb.BareVerb.TheVariants.{Close as CloseVerb, Front as FrontVerb, Behind as BehindVerb}
+use Rattle.lw_grammar.specs.declared.verb.BareVerb.TheVariants.{Activate as ActivateVerb, Unclip as UnclipVerb}
+use Rattle.lw_grammar.specs.declared.verb.BareVerb.TheVariants.{Refresh as RefreshVerb, GetMsg as GetMsgVerb}
 use Rattle.lw_grammar.specs.declared.verb.NumberVerb.{NumberVerb}
-use Rattle.lw_grammar.specs.declared.verb.NumberVerb.TheVariants.{APen as APenVerb, BPen as BPenVerb, Mode as ModeVerb, Mask as MaskVerb, SetRast as SetRastVerb, Clip as ClipVerb, Hook as HookVerb}
+use Rattle.lw_grammar.specs.declared.verb.NumberVerb.TheVariants.{APen as APenVerb, BPen as BPenVerb, Mode as ModeVerb}
+use Rattle.lw_grammar.specs.declared.verb.NumberVerb.TheVariants.{Mask as MaskVerb, SetRast as SetRastVerb, Clip as ClipVerb}
+use Rattle.lw_grammar.specs.declared.verb.NumberVerb.TheVariants.{Hook as HookVerb}
 use Rattle.lw_grammar.specs.declared.verb.PairVerb.{PairVerb}
-use Rattle.lw_grammar.specs.declared.verb.PairVerb.TheVariants.{Move as MoveVerb, Size as SizeVerb, At as AtVerb, Write as WriteVerb, Read as ReadVerb, Draw as DrawVerb, Scroll as ScrollVerb}
+use Rattle.lw_grammar.specs.declared.verb.PairVerb.TheVariants.{Move as MoveVerb, Size as SizeVerb, At as AtVerb}
+use Rattle.lw_grammar.specs.declared.verb.PairVerb.TheVariants.{Write as WriteVerb, Read as ReadVerb, Draw as DrawVerb}
+use Rattle.lw_grammar.specs.declared.verb.PairVerb.TheVariants.{Scroll as ScrollVerb}
 use Rattle.lw_grammar.specs.declared.verb.TextVerb.{TextVerb}
 use Rattle.lw_grammar.specs.declared.verb.TextVerb.TheVariants.{Text as TextOf, Title as TitleVerb}
-use Rattle.lw_grammar.specs.Statements.{NewLayer, Act, BareAct, NumberAct, PairAct, TextAct, RegRectAct, RegPairAct, RegClearAct, CreateAct, OpenAct, InFrontAct, BoxAct, WhichAct, FillAct, ScrollRasterAct, PutAct, BlitAct, EndRefreshAct, Statement, LayersLine, ScreenLine, GlyphLine, BitmapLine, RowLine, PatternLine, TaskLine, EndLine, OrderLine, NumbersLine, ReportLine, CallLine, LockLine, UnlockLine, HoldLine, ReleaseLine, NameSeen, PairMade, GzzAct, OpenGzz, BoxGzz, FrontGzz, BehindGzz, InFrontGzz, CloseGzz, Line, StatementLine, AreaLine, GzzLine, Four, four, bounds, new_without_bitmap, version_at_screen}
+use Rattle.lw_grammar.specs.Statements.{NewLayer, Act, BareAct, NumberAct, PairAct, TextAct, RegRectAct, RegPairAct}
+use Rattle.lw_grammar.specs.Statements.{RegClearAct, CreateAct, OpenAct, InFrontAct, BoxAct, WhichAct, FillAct, ScrollRasterAct}
+use Rattle.lw_grammar.specs.Statements.{PutAct, BlitAct, EndRefreshAct, Statement, LayersLine, ScreenLine, GlyphLine}
+use Rattle.lw_grammar.specs.Statements.{BitmapLine, RowLine, PatternLine, TaskLine, EndLine, OrderLine, NumbersLine, ReportLine}
+use Rattle.lw_grammar.specs.Statements.{CallLine, LockLine, UnlockLine, HoldLine, ReleaseLine, NameSeen, PairMade, GzzAct}
+use Rattle.lw_grammar.specs.Statements.{OpenGzz, BoxGzz, FrontGzz, BehindGzz, InFrontGzz, CloseGzz, Line, StatementLine}
+use Rattle.lw_grammar.specs.Statements.{AreaLine, GzzLine, Four, four, bounds, new_without_bitmap, version_at_screen}
 
 -- The parts of a script, by what is due in them: the screen, before which the version may stand; glyphs, bitmaps, patterns and
 -- the first task; in a task calls, groups or its end; after a task a further one, an order or a report; numbers of an order;

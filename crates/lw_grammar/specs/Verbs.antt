@@ -5,7 +5,8 @@ use Rattle.lw_calls.specs.declared.operation.RectOp.TheVariants.{Or as OrR, And 
 use Rattle.lw_calls.specs.declared.operation.PairOp.{PairOp}
 use Rattle.lw_calls.specs.declared.operation.PairOp.TheVariants.{Or as OrP, And as AndP, Xor as XorP}
 use Rattle.lw_grammar.specs.declared.verb.PartVerb.{PartVerb}
-use Rattle.lw_grammar.specs.declared.verb.PartVerb.TheVariants.{Layers, Screen, Glyph, Bitmap, Pattern, Task, End, Order, Report, Lock, Unlock, Hold, Release}
+use Rattle.lw_grammar.specs.declared.verb.PartVerb.TheVariants.{Layers, Screen, Glyph, Bitmap, Pattern, Task, End, Order}
+use Rattle.lw_grammar.specs.declared.verb.PartVerb.TheVariants.{Report, Lock, Unlock, Hold, Release}
 use Rattle.lw_grammar.specs.declared.verb.BareVerb.{BareVerb}
 use Rattle.lw_grammar.specs.declared.verb.BareVerb.TheVariants.{Close, Front, Behind, Activate, Unclip, Refresh, GetMsg}
 use Rattle.lw_grammar.specs.declared.verb.NumberVerb.{NumberVerb}
@@ -15,9 +16,12 @@ use Rattle.lw_grammar.specs.declared.verb.PairVerb.TheVariants.{Move, Size, At, 
 use Rattle.lw_grammar.specs.declared.verb.TextVerb.{TextVerb}
 use Rattle.lw_grammar.specs.declared.verb.TextVerb.TheVariants.{Text as TextOf, Title}
 use Rattle.lw_grammar.specs.declared.verb.GzzVerb.{GzzVerb}
-use Rattle.lw_grammar.specs.declared.verb.GzzVerb.TheVariants.{Open as OpenGzz, Box as BoxGzz, Front as FrontGzz, Behind as BehindGzz, InFront as InFrontGzz, Close as CloseGzz}
+use Rattle.lw_grammar.specs.declared.verb.GzzVerb.TheVariants.{Open as OpenGzz, Box as BoxGzz, Front as FrontGzz}
+use Rattle.lw_grammar.specs.declared.verb.GzzVerb.TheVariants.{Behind as BehindGzz, InFront as InFrontGzz, Close as CloseGzz}
 use Rattle.lw_grammar.specs.declared.verb.Verb.{Verb}
-use Rattle.lw_grammar.specs.declared.verb.Verb.TheVariants.{Part, Bare, Number, Pair, Text, Rect, Region, ClearRegion, Create, Open, InFront, Box, Which, Fill, ScrollRaster, Put, Blit, EndRefresh, Area, AreaPattern, Gzz}
+use Rattle.lw_grammar.specs.declared.verb.Verb.TheVariants.{Part, Bare, Number, Pair, Text, Rect, Region, ClearRegion, Create}
+use Rattle.lw_grammar.specs.declared.verb.Verb.TheVariants.{Open, InFront, Box, Which, Fill, ScrollRaster, Put, Blit}
+use Rattle.lw_grammar.specs.declared.verb.Verb.TheVariants.{EndRefresh, Area, AreaPattern, Gzz}
 
 -- the words of verbs, by their kinds
 abbrev pub part_word : PartVerb → List ℕ

@@ -1,5 +1,6 @@
 -- The word for which calls stand, found by tests of their parts (this project's own).
-use Rattle.std.specs.Prelude.{◌≡◌, ℕ, ◌==◌, Bool, true, false, not, ◌&&◌, if◌then◌else◌, List, [], ◌∷◌, ℤ, pos, ◌+ℤ◌, Option, Some}
+use Rattle.std.specs.Prelude.{◌≡◌, ℕ, ◌==◌, Bool, true, false, not, ◌&&◌, if◌then◌else◌, List, [], ◌∷◌, ℤ, pos, ◌+ℤ◌, Option}
+use Rattle.std.specs.Prelude.{Some}
 use Rattle.std.specs.Prelude.{None, is_some, length}
 use Rattle.std.specs.Ordering.{int_eq}
 use Rattle.std.specs.List.{list_all}
@@ -89,7 +90,8 @@ CallsHaveTheirWord = (p : Pair) (calls : List Call) → IsWordOf p calls (word_o
 -- Calls stand for one word at most, done with one pair.
 abbrev pub CallsStandForOnePair : Type 0
 CallsStandForOnePair =
-    (p q : Pair) (calls : List Call) (word other : GzzWord) → Spells p word calls → Spells q other calls → (p ≡ q) × (word ≡ other)
+    (p q : Pair) (calls : List Call) (word other : GzzWord) → Spells p word calls → Spells q other calls
+    → (p ≡ q) × (word ≡ other)
 
 -- Each call of a word is one that may part its pair.
 abbrev pub WordsMayPartTheirPair : Type 0

@@ -1,5 +1,5 @@
-//! Histories of arrangements: before and after each call every place of the screen is in exactly one strip, that of the layer that a
-//! plain look at the list gives or of the desktop, and the screen is a plain picture of the layers.
+//! Histories of arrangements: before and after each call every place of the screen is in exactly one strip, that of the layer
+//! that a plain look at the list gives or of the desktop, and the screen is a plain picture of the layers.
 ghost use Rattle.std.specs.Prelude.{◌≡◌, ◌<◌, IfOk};
 ghost use Rattle.lw_machine.specs.Desk.{Desk as MachineDesk};
 ghost use Rattle.lw_engine.specs.Layers.{AreLayers, layer_relations};

@@ -1,7 +1,8 @@
 -- ByteRun1, the packing of the rows of a picture (the IFF text on ILBM; which runs are packed as repeats is this project's own).
 -- A code is a byte and what follows it: a byte c from 0 to 127 says that the next c + 1 bytes stand as they are, one from 129 to
 -- 255 that the next byte stands 257 - c times, and 128 says nothing.
-use Rattle.std.specs.Prelude.{ℕ, zero, suc, ◌+◌, ◌-◌, min, Bool, false, ◌&&◌, ◌==◌, nat_le, if◌then◌else◌, List, [], ◌∷◌, ◌++◌, take}
+use Rattle.std.specs.Prelude.{ℕ, zero, suc, ◌+◌, ◌-◌, min, Bool, false, ◌&&◌, ◌==◌, nat_le, if◌then◌else◌, List, [], ◌∷◌, ◌++◌}
+use Rattle.std.specs.Prelude.{take}
 use Rattle.std.specs.Prelude.{replicate}
 
 -- how many of the bytes from the first on are this one

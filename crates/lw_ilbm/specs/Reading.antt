@@ -1,6 +1,7 @@
 -- What a file gives: a picture, or the place of its first fault.
 use Rattle.std.specs.Prelude.{◌≡◌, ℕ, zero, suc, ◌+◌, ◌-◌, ◌%◌, Bool, not, ◌&&◌, ◌||◌, ◌==◌, nat_lt, nat_le, if◌then◌else◌}
-use Rattle.std.specs.Prelude.{List, [], ◌∷◌, length, take, drop, slice_index, codes, bytes_eq, Option, Some, None, is_none, Result, Ok, Err}
+use Rattle.std.specs.Prelude.{List, [], ◌∷◌, length, take, drop, slice_index, codes, bytes_eq, Option, Some, None, is_none}
+use Rattle.std.specs.Prelude.{Result, Ok, Err}
 use Rattle.std.specs.Int.{w16, w32, from_be_bytes}
 use Rattle.lw_planes.specs.Bitmap.{Bitmap}
 use Rattle.lw_ilbm.specs.declared.header.Header.{Header}
@@ -30,8 +31,9 @@ name_fault bytes place (c ∷ cs) =
 abbrev pub is_maskless : ℕ → Bool
 is_maskless masking = (masking == 0) || ((masking == 2) || (masking == 3))
 
--- The header that a BMHD chunk gives: the first of its contents at this place. Or the first fault: too little contents, whose place is the
--- chunk's, a width or a height that is not 1 to the limit, planes that are not 1 to 8, a mask plane, or a packing that is unknown.
+-- The header that a BMHD chunk gives: the first of its contents at this place. Or the first fault: too little contents, whose
+-- place is the chunk's, a width or a height that is not 1 to the limit, planes that are not 1 to 8, a mask plane, or a packing
+-- that is unknown.
 abbrev pub header_of : ℕ → ℕ → List ℕ → Result Header ℕ
 header_of limit place contents =
     if nat_lt (length contents) 20 then Err place
@@ -77,8 +79,8 @@ chunk_gives limit place name contents header next =
     else next header)
 
 -- What the last bytes of a file of so many bytes give, by the header that was read before them, once the first of them are passed
--- over: chunk after chunk, each with a head of 8 bytes, its name and the length of its contents, and a byte more after contents of
--- odd length. A head that is cut off is a fault at the end, and contents that pass the end are one at the chunk's head.
+-- over: chunk after chunk, each with a head of 8 bytes, its name and the length of its contents, and a byte more after contents
+-- of odd length. A head that is cut off is a fault at the end, and contents that pass the end are one at the chunk's head.
 abbrev pub chunks_after : ℕ → ℕ → Option Header → ℕ → List ℕ → Result Bitmap ℕ
 chunks_after limit size header skip [] = Err size
 chunks_after limit size header (suc skip) (b ∷ bs) = chunks_after limit size header skip bs

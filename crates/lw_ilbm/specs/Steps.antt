@@ -28,4 +28,5 @@ abbrev pub LeadsTo : ℕ → ℕ → List ℕ → List ℕ → Option Header →
 LeadsTo limit place name contents header (Picture planes) =
     (next : Option Header → Result Bitmap ℕ) → chunk_gives limit place name contents header next ≡ Ok planes
 LeadsTo limit place name contents header (On read) =
-    IsHeaderIfAny read × ((next : Option Header → Result Bitmap ℕ) → chunk_gives limit place name contents header next ≡ next read)
+    IsHeaderIfAny read
+    × ((next : Option Header → Result Bitmap ℕ) → chunk_gives limit place name contents header next ≡ next read)

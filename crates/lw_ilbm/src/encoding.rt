@@ -15,9 +15,9 @@ use lw_text_output::leftmost_bits;
 use std::alloc::{AllocError, Global};
 
 /// The planes as an ILBM file: FORM, its length, ILBM, the chunk BMHD with the picture's sizes, and the chunk BODY with each
-/// row's planes one after another, each packed alone by ByteRun1, with zeros in the padding (the IFF text on ILBM; that no colours
-/// are written, and which runs are packed as repeats, is this project's own). A file has 40 bytes and the body's, a whole number
-/// of words.
+/// row's planes one after another, each packed alone by ByteRun1, with zeros in the padding (the IFF text on ILBM; that no
+/// colours are written, and which runs are packed as repeats, is this project's own). A file has 40 bytes and the body's, a whole
+/// number of words.
 pub fn encode(alloc: Global, planes: &Planes) -> Result<Vec<u8>, AllocError>
     ensures { IfOk result (λ bytes. bytes.items ≡ encoded planes.now) }
 {

@@ -1,5 +1,5 @@
-//! Pictures as ILBM files: `encode` makes a file of planes, and `decode` reads one (the IFF text on ILBM; see `specs/Reading.antt`
-//! for what is left out and where each fault is).
+//! Pictures as ILBM files: `encode` makes a file of planes, and `decode` reads one (the IFF text on ILBM; see
+//! `specs/Reading.antt` for what is left out and where each fault is).
 #![tactic(auto)]
 
 mod body;

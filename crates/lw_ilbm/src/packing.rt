@@ -89,7 +89,8 @@ fn push_unpacked(out: &mut Vec<u8>, codes: &[u8]) -> Result<usize, AllocError>
     requires { 0 < length codes.now }
     ensures some { IfOk result (λ count. 0 < count) }
     ensures inside { IfOk result (λ count. count ≤ length codes.now) }
-    ensures bytes { IfOk result (λ count. out.new.items ++ unpacked (drop count codes.now) ≡ out.old.items ++ unpacked codes.now) }
+    ensures bytes { IfOk result (λ count. out.new.items ++ unpacked (drop count codes.now)
+        ≡ out.old.items ++ unpacked codes.now) }
 {
     let code = codes[0] as usize;
     let rest = &codes[1..];

@@ -1,4 +1,5 @@
-ghost use Rattle.std.specs.Prelude.{◌≡◌, ℕ, ◌+◌, ◌-◌, ◌*◌, ◌/◌, ◌^◌, ◌<◌, ◌≤◌, ◌&&◌, nat_lt, true, if◌then◌else◌, bit_and, length, slice_index};
+ghost use Rattle.std.specs.Prelude.{◌≡◌, ℕ, ◌+◌, ◌-◌, ◌*◌, ◌/◌, ◌^◌, ◌<◌, ◌≤◌, ◌&&◌, nat_lt, true, if◌then◌else◌, bit_and};
+ghost use Rattle.std.specs.Prelude.{length, slice_index};
 ghost use Rattle.std.specs.Int.{bit_at};
 ghost use Rattle.lw_planes.specs.Row.{row_bit, row_bits};
 ghost use Rattle.lw_planes.specs.Minterm.{minterm_bit};
@@ -77,7 +78,8 @@ pub fn combine_rows(
     requires source_inside { source_bit + count ≤ 8 * source_step }
     requires source_all { rows * source_step ≤ length source.now }
     ensures { (y x : ℕ) → x < 8 * to_step → row_bit to.new (place_in to_step y x) ≡ (if nat_lt y rows && is_named to_bit count x
-        then minterm_bit minterm (row_bit source.now (place_in source_step y (source_bit + (x - to_bit)))) (row_bit to.old (place_in to_step y x))
+        then minterm_bit minterm (row_bit source.now (place_in source_step y (source_bit + (x - to_bit))))
+        (row_bit to.old (place_in to_step y x))
         else row_bit to.old (place_in to_step y x)) }
 {
     if count > 0 {
@@ -148,8 +150,10 @@ fn lines(
     requires source_all { rows * source_step ≤ length source.now }
     requires near { span.end < 2 ^ 40 }
     requires near_source { place < 2 ^ 40 }
-    ensures { (y x : ℕ) → x < 8 * to_step → row_bit to.new (place_in to_step y x) ≡ (if nat_lt y rows && is_between span.from span.end x
-        then minterm_bit minterm (row_bit source.now (place_in source_step y (place + (x - span.from)))) (row_bit to.old (place_in to_step y x))
+    ensures { (y x : ℕ) → x < 8 * to_step
+        → row_bit to.new (place_in to_step y x) ≡ (if nat_lt y rows && is_between span.from span.end x
+        then minterm_bit minterm (row_bit source.now (place_in source_step y (place + (x - span.from))))
+        (row_bit to.old (place_in to_step y x))
         else row_bit to.old (place_in to_step y x)) }
 {
     for row in 0..rows {

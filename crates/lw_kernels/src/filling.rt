@@ -58,7 +58,8 @@ fn fill_lines(bytes: &mut [u8], step: usize, rows: u32, span: Span, bit: bool)
     requires span { IsSpan span }
     requires inside { span.end ≤ 8 * step }
     requires all { rows * step ≤ length bytes.old }
-    ensures { (y x : ℕ) → x < 8 * step → row_bit bytes.new (place_in step y x) ≡ (if nat_lt y rows && is_between span.from span.end x
+    ensures { (y x : ℕ) → x < 8 * step
+        → row_bit bytes.new (place_in step y x) ≡ (if nat_lt y rows && is_between span.from span.end x
         then bit_of bit
         else row_bit bytes.old (place_in step y x)) }
 {

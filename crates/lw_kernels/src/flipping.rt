@@ -23,7 +23,8 @@ pub fn flip(row: &mut [u8], from: u32, count: u32)
 fn flip_run(row: &mut [u8], from: u32, count: u32)
     requires some { 0 < count }
     requires inside { from + count ≤ 8 * length row.old }
-    ensures { (p : ℕ) → row_bit row.new p ≡ (if is_between from (from + count) p then 1 - row_bit row.old p else row_bit row.old p) }
+    ensures { (p : ℕ) → row_bit row.new p
+        ≡ (if is_between from (from + count) p then 1 - row_bit row.old p else row_bit row.old p) }
 {
     if count <= 8 - from % 8 {
         let from = from as usize;
@@ -60,7 +61,8 @@ fn flip_lines(bytes: &mut [u8], step: usize, rows: u32, span: Span)
     requires span { IsSpan span }
     requires inside { span.end ≤ 8 * step }
     requires all { rows * step ≤ length bytes.old }
-    ensures { (y x : ℕ) → x < 8 * step → row_bit bytes.new (place_in step y x) ≡ (if nat_lt y rows && is_between span.from span.end x
+    ensures { (y x : ℕ) → x < 8 * step
+        → row_bit bytes.new (place_in step y x) ≡ (if nat_lt y rows && is_between span.from span.end x
         then 1 - row_bit bytes.old (place_in step y x)
         else row_bit bytes.old (place_in step y x)) }
 {

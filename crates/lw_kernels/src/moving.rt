@@ -9,8 +9,8 @@ use crate::copying::{copy_plain, copy_shifted, put_block};
 use crate::pairs::fetch_pair;
 
 // Gives the bytes from `first` on, before `last`, the bits of the row from bit `shift` of byte `start` on, as
-// they were before. Either way is a call for each row: put in line, they would make the loops over rows too large for the compiler
-// to keep one for each way of blitting.
+// they were before. Either way is a call for each row: put in line, they would make the loops over rows too large for the
+// compiler to keep one for each way of blitting.
 #[inline(always)]
 pub(crate) fn move_bytes(row: &mut [u8], first: usize, last: usize, start: usize, shift: usize)
     requires low { shift < 8 }

@@ -1,6 +1,7 @@
 // How the sources of a blit come to their bits, worked out once for all of its rows.
 
-ghost use Rattle.std.specs.Prelude.{◌≡◌, ℕ, ◌+◌, ◌-◌, ◌*◌, ◌/◌, ◌%◌, ◌^◌, ◌<◌, ◌≤◌, ◌==◌, ◌&&◌, true, if◌then◌else◌, bit_and, length};
+ghost use Rattle.std.specs.Prelude.{◌≡◌, ℕ, ◌+◌, ◌-◌, ◌*◌, ◌/◌, ◌%◌, ◌^◌, ◌<◌, ◌≤◌, ◌==◌, ◌&&◌, true, if◌then◌else◌, bit_and};
+ghost use Rattle.std.specs.Prelude.{length};
 ghost use Rattle.std.specs.Int.{bit_at};
 ghost use Rattle.lw_planes.specs.Row.{row_bit};
 ghost use Rattle.lw_planes.specs.Minterm.{minterm_bit};
@@ -53,7 +54,8 @@ pub(crate) fn bits_from(
     requires near_end { end < 2 ^ 42 }
     requires inside { 8 * at + end ≤ 8 * length row.now }
     requires whole { whole ≡ true → place % 8 ≡ lead }
-    ensures { (j : ℕ) → lead ≤ j → j < 8 → place + (j - lead) < end → bit_at result (7 - j) ≡ row_bit row.now (8 * at + place + (j - lead)) }
+    ensures { (j : ℕ) → lead ≤ j → j < 8 → place + (j - lead) < end
+        → bit_at result (7 - j) ≡ row_bit row.now (8 * at + place + (j - lead)) }
 {
     let last = (end - 1) / 8;
     let first = last.min(place / 8);

@@ -1,6 +1,7 @@
 // Blits within the same bytes.
 
-ghost use Rattle.std.specs.Prelude.{◌≡◌, ℕ, ◌+◌, ◌-◌, ◌*◌, ◌^◌, ◌<◌, ◌≤◌, ◌&&◌, true, if◌then◌else◌, bit_and, length, slice_index};
+ghost use Rattle.std.specs.Prelude.{◌≡◌, ℕ, ◌+◌, ◌-◌, ◌*◌, ◌^◌, ◌<◌, ◌≤◌, ◌&&◌, true, if◌then◌else◌, bit_and, length};
+ghost use Rattle.std.specs.Prelude.{slice_index};
 ghost use Rattle.lw_planes.specs.Row.{row_bit, row_bits};
 ghost use Rattle.lw_planes.specs.Minterm.{minterm_bit};
 ghost use Rattle.lw_kernels.specs.Kernel.{blit_bit, is_between, is_named, place_in, with_named};
@@ -67,8 +68,10 @@ pub fn combine_rows_within(
     requires to_all { (to.row + rows) * step ≤ length bytes.old }
     requires source_inside { source.bit + count ≤ 8 * step }
     requires source_all { (source.row + rows) * step ≤ length bytes.old }
-    ensures { (y x : ℕ) → x < 8 * step → row_bit bytes.new (place_in step y x) ≡ (if is_named to.row rows y && is_named to.bit count x
-        then minterm_bit minterm (row_bit bytes.old (place_in step (source.row + (y - to.row)) (source.bit + (x - to.bit)))) (row_bit bytes.old (place_in step y x))
+    ensures { (y x : ℕ) → x < 8 * step
+        → row_bit bytes.new (place_in step y x) ≡ (if is_named to.row rows y && is_named to.bit count x
+        then minterm_bit minterm (row_bit bytes.old (place_in step (source.row + (y - to.row)) (source.bit + (x - to.bit))))
+        (row_bit bytes.old (place_in step y x))
         else row_bit bytes.old (place_in step y x)) }
 {
     if count > 0 {
@@ -106,8 +109,10 @@ fn rows_within(
     requires source_inside { source.bit + (span.end - span.from) ≤ 8 * step }
     requires source_all { (source.row + rows) * step ≤ length bytes.old }
     requires near { span.end < 2 ^ 40 }
-    ensures { (y x : ℕ) → x < 8 * step → row_bit bytes.new (place_in step y x) ≡ (if is_named to rows y && is_between span.from span.end x
-        then minterm_bit minterm (row_bit bytes.old (place_in step (source.row + (y - to)) (source.bit + (x - span.from)))) (row_bit bytes.old (place_in step y x))
+    ensures { (y x : ℕ) → x < 8 * step
+        → row_bit bytes.new (place_in step y x) ≡ (if is_named to rows y && is_between span.from span.end x
+        then minterm_bit minterm (row_bit bytes.old (place_in step (source.row + (y - to)) (source.bit + (x - span.from))))
+        (row_bit bytes.old (place_in step y x))
         else row_bit bytes.old (place_in step y x)) }
 {
     if to <= source.row {
@@ -137,8 +142,10 @@ fn rows_down(
     requires near { span.end < 2 ^ 40 }
     requires source_all { (source.row + rows) * step ≤ length bytes.old }
     requires after { to ≤ source.row }
-    ensures { (y x : ℕ) → x < 8 * step → row_bit bytes.new (place_in step y x) ≡ (if is_named to rows y && is_between span.from span.end x
-        then minterm_bit minterm (row_bit bytes.old (place_in step (source.row + (y - to)) (source.bit + (x - span.from)))) (row_bit bytes.old (place_in step y x))
+    ensures { (y x : ℕ) → x < 8 * step
+        → row_bit bytes.new (place_in step y x) ≡ (if is_named to rows y && is_between span.from span.end x
+        then minterm_bit minterm (row_bit bytes.old (place_in step (source.row + (y - to)) (source.bit + (x - span.from))))
+        (row_bit bytes.old (place_in step y x))
         else row_bit bytes.old (place_in step y x)) }
 {
     for row in 0..rows {
@@ -168,8 +175,10 @@ fn rows_up(
     requires near { span.end < 2 ^ 40 }
     requires source_all { (source.row + rows) * step ≤ length bytes.old }
     requires before { source.row ≤ to }
-    ensures { (y x : ℕ) → x < 8 * step → row_bit bytes.new (place_in step y x) ≡ (if is_named to rows y && is_between span.from span.end x
-        then minterm_bit minterm (row_bit bytes.old (place_in step (source.row + (y - to)) (source.bit + (x - span.from)))) (row_bit bytes.old (place_in step y x))
+    ensures { (y x : ℕ) → x < 8 * step
+        → row_bit bytes.new (place_in step y x) ≡ (if is_named to rows y && is_between span.from span.end x
+        then minterm_bit minterm (row_bit bytes.old (place_in step (source.row + (y - to)) (source.bit + (x - span.from))))
+        (row_bit bytes.old (place_in step y x))
         else row_bit bytes.old (place_in step y x)) }
 {
     for row in (0..rows).rev() {

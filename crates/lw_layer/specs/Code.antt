@@ -1,6 +1,7 @@
 -- For private contracts.
 -- What the code of a cell is told of places, buffers and runs.
-use Rattle.std.specs.Prelude.{◌≡◌, ℕ, ◌+◌, ◌<◌, ◌≤◌, Bool, true, false, not, ◌&&◌, ◌||◌, if◌then◌else◌, List, [], All, ℤ, pos, ◌+ℤ◌, ◌≤ℤ◌, Option, Some, None, length}
+use Rattle.std.specs.Prelude.{◌≡◌, ℕ, ◌+◌, ◌<◌, ◌≤◌, Bool, true, false, not, ◌&&◌, ◌||◌, if◌then◌else◌, List, [], All, ℤ, pos}
+use Rattle.std.specs.Prelude.{◌+ℤ◌, ◌≤ℤ◌, Option, Some, None, length}
 use Rattle.lw_region.specs.Bands.{covers}
 use Rattle.lw_damage.specs.Damaged.{Damaged}
 use Rattle.lw_machine.specs.Kept.{in_clip}

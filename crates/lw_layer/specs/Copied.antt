@@ -42,7 +42,8 @@ with_kept c x y b = bitmap b.width b.height b.depth (λ i j. pen_over (pen_at b 
 
 -- the pen of the layer's pixel that lies on the place (x, y) of the screen, for a place that its bounds have
 abbrev pub pen_shown : LiveView → ℕ → ℕ → ℕ
-pen_shown c x y = pen_at c.layer.bits (distance c.bounds.min_x (pos x) + c.layer.scroll_x) (distance c.bounds.min_y (pos y) + c.layer.scroll_y)
+pen_shown c x y =
+    pen_at c.layer.bits (distance c.bounds.min_x (pos x) + c.layer.scroll_x) (distance c.bounds.min_y (pos y) + c.layer.scroll_y)
 
 -- The strips are solid, have as many planes as the layer, and where it is visible on the screen they have the pens that it shows.
 pub record HaveShown (c : LiveView) (s : List StripView) : Type 0 where
@@ -51,7 +52,8 @@ pub record HaveShown (c : LiveView) (s : List StripView) : Type 0 where
   pub pens : (x y : ℕ) → covers c.visible (pos x) (pos y) ≡ true → strips.pen_in s (pos x) (pos y) ≡ pen_shown c x y
 
 -- What reading a row gives of the places of a list of rectangles with a bitmap each, for private contracts.
-pub record HasPlaces (rects : List Rectangle) (buffers : List Bitmap) (plane : ℕ) (x y : ℤ) (n : ℕ) (bits kept : List ℕ) : Type 0 where
+pub record HasPlaces
+    (rects : List Rectangle) (buffers : List Bitmap) (plane : ℕ) (x y : ℤ) (n : ℕ) (bits kept : List ℕ) : Type 0 where
   pub pens : (i : ℕ) → i < n → row_bit bits i ≡ bit_at (pen_in rects buffers (x +ℤ pos i) y) plane
   pub there : (i : ℕ) → i < n → row_bit kept i ≡ bit_of (covers rects (x +ℤ pos i) y)
 

@@ -1,5 +1,6 @@
 -- Which slot a draft stands for, and what has to hold of a draft.
-use Rattle.std.specs.Prelude.{◌≡◌, ℕ, ◌+◌, ◌<◌, ◌≤◌, true, false, List, [], ◌∷◌, ◌++◌, length, ℤ, pos, ◌≤ℤ◌, unsigned_abs, Option, Some, None}
+use Rattle.std.specs.Prelude.{◌≡◌, ℕ, ◌+◌, ◌<◌, ◌≤◌, true, false, List, [], ◌∷◌, ◌++◌, length, ℤ, pos, ◌≤ℤ◌, unsigned_abs}
+use Rattle.std.specs.Prelude.{Option, Some, None}
 use Rattle.std.specs.List.{All, slice_index_or}
 use Rattle.lw_region.specs.Rectangle.{Rectangle, width, height}
 use Rattle.lw_region.specs.Pixels.{Pixel, pixels_of}
@@ -72,7 +73,11 @@ no_bitmap = record { width = 0; height = 0; depth = 0; rows = [] }
 
 -- and no strip
 abbrev pub no_strip : StripView
-no_strip = record { rect = record { min_x = pos 0; min_y = pos 0; max_x = pos 0; max_y = pos 0 }; planes = no_bitmap; solid = false }
+no_strip = record {
+  rect = record { min_x = pos 0; min_y = pos 0; max_x = pos 0; max_y = pos 0 };
+  planes = no_bitmap;
+  solid = false;
+}
 
 -- the pen of the pixel (x, y) in the buffer with a number, or 0 where no buffer has it
 abbrev pub pen_from : List Bitmap → Layout → Option ℕ → ℕ → ℕ → ℕ

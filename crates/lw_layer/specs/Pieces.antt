@@ -1,6 +1,7 @@
 -- Where a live layer's pens lie: in rectangles of the screen's plane, each with a buffer of its size (the manual's
 -- Layers Library chapter: the ClipRect structure; which rectangles have a buffer is this project's own).
-use Rattle.std.specs.Prelude.{◌≡◌, ℕ, ◌==◌, ◌<◌, ◌≤◌, ◌+◌, ◌-◌, ◌*◌, Bool, true, false, ◌&&◌, nat_le, nat_lt, if◌then◌else◌, List, [], ◌∷◌, ◌++◌, length, ℤ, pos, ◌+ℤ◌, ◌-ℤ◌, Option, Some, None}
+use Rattle.std.specs.Prelude.{◌≡◌, ℕ, ◌==◌, ◌<◌, ◌≤◌, ◌+◌, ◌-◌, ◌*◌, Bool, true, false, ◌&&◌, nat_le, nat_lt, if◌then◌else◌}
+use Rattle.std.specs.Prelude.{List, [], ◌∷◌, ◌++◌, length, ℤ, pos, ◌+ℤ◌, ◌-ℤ◌, Option, Some, None}
 use Rattle.std.specs.Int.{bit_at}
 use Rattle.std.specs.List.{position, slice_index_or}
 use Rattle.lw_region.specs.Rectangle.{Rectangle, has_pixel, width, height}
@@ -115,7 +116,8 @@ place_from l n line x y = 8 * ((line_in l n y - line) * row_bytes (width (buffer
 -- the bytes have in a plane the bits of the pixels whose pens are in so many lines of a buffer from a line on
 abbrev pub HaveLinesBits : LiveView → ℕ → ℕ → ℕ → ℕ → List ℕ → Type 0
 HaveLinesBits c plane n line rows bytes =
-    (x y : ℕ) → in_lines (layout_of c) n line rows x y ≡ true → row_bit bytes (place_from (layout_of c) n line x y) ≡ bit_at (pen_at c.layer.bits x y) plane
+    (x y : ℕ) → in_lines (layout_of c) n line rows x y ≡ true
+    → row_bit bytes (place_from (layout_of c) n line x y) ≡ bit_at (pen_at c.layer.bits x y) plane
 
 -- The live layer once these bytes were written over those of a buffer's planes from a line of a plane on.
 unfoldable pub with_bytes : LiveView → ℕ → ℕ → ℕ → List ℕ → LiveView
@@ -123,7 +125,9 @@ with_bytes c plane n line bytes =
     let l = layout_of c in
     let r = buffer_rectangle l n in
     repainted (λ x y. if is_the (buffer_at l x y) n
-    then pen_of c.layer.bits.depth (λ p. overwritten_bit (width r) (height r) plane line bytes (column_in l n x) (line_in l n y) p (bit_at (pen_at c.layer.bits x y) p))
+    then pen_of c.layer.bits.depth
+    (λ p. overwritten_bit (width r) (height r) plane line bytes (column_in l n x) (line_in l n y) p
+    (bit_at (pen_at c.layer.bits x y) p))
     else pen_at c.layer.bits x y) c
 
 -- The live layer whose pixels with their pens in so many lines of a buffer from a line on have in a plane the bits that these
@@ -131,10 +135,12 @@ with_bytes c plane n line bytes =
 abbrev pub with_lines : LiveView → ℕ → ℕ → ℕ → ℕ → List ℕ → LiveView
 with_lines c plane n line rows bytes =
     let l = layout_of c in
-    repainted (λ x y. pen_of c.layer.bits.depth (λ p. if p == plane && in_lines l n line rows x y then row_bit bytes (place_from l n line x y) else bit_at (pen_at c.layer.bits x y) p)) c
+    repainted (λ x y. pen_of c.layer.bits.depth
+    (λ p. if p == plane && in_lines l n line rows x y then row_bit bytes (place_from l n line x y)
+    else bit_at (pen_at c.layer.bits x y) p)) c
 
--- Where damage may lie in a layer w wide and h high: nowhere in a super-bitmap layer, in what the frame leaves of a framed window,
--- and in all of any other layer.
+-- Where damage may lie in a layer w wide and h high: nowhere in a super-bitmap layer, in what the frame leaves of a framed
+-- window, and in all of any other layer.
 abbrev pub inner_of : Bool → Bool → ℕ → ℕ → Option Rectangle
 inner_of true framed w h = None
 inner_of false true w h = Some (record { min_x = pos 4; min_y = pos 11; max_x = pos (w - 5); max_y = pos (h - 3) })
@@ -152,7 +158,8 @@ pub record HasFrameRoom (r : Rectangle) : Type 0 where
 abbrev pub damage_table : Bitmap → List Rectangle → List (List Bool)
 damage_table bits rects = grid bits.width bits.height (λ x y. covers rects (pos x) (pos y))
 
--- The damage is that of the layer: its pixels, which are kept and lie in the layer's inner rectangle, and whether an update is on.
+-- The damage is that of the layer: its pixels, which are kept and lie in the layer's inner rectangle, and whether an update is
+-- on.
 pub record IsDamageOf (c : LiveView) (d : Damaged) : Type 0 where
   pub pixels : c.layer.damage ≡ damage_table c.layer.bits d.rects
   pub kept : (x y : ℤ) → covers d.rects x y ≡ true → holds_at (λ i j. keeps c i j) x y ≡ true

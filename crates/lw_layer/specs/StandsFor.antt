@@ -40,8 +40,8 @@ StandsFor c p = IsPartOf c.state c.live p
 
 -- What holds of every live layer: its bits are a bitmap with sizes for planes, of the size of its bounds unless it has a bitmap
 -- of its own, with pen 0 off the pixels that it keeps; what is visible lies in its bounds, in canonical form; the portion
--- that is shown lies in its bits; it has no hook, which lies beside the cell; and a framed window is no super-bitmap layer and has
--- room for its frame.
+-- that is shown lies in its bits; it has no hook, which lies beside the cell; and a framed window is no super-bitmap layer and
+-- has room for its frame.
 pub record IsSound (c : LiveView) : Type 0 where
   pub bits : IsPlanes c.layer.bits
   pub off_kept : (x y : ℕ) → keeps c x y ≡ false → pen_at c.layer.bits x y ≡ 0

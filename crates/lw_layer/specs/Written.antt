@@ -51,7 +51,9 @@ abbrev pub with_line_bytes : ℕ → ℕ → ℕ → LiveDraft → List ℕ → 
 with_line_bytes plane n line d bytes = changed_buffer n (λ b. with_row b plane line bytes) d
 
 abbrev pub LendsOwn : MutBor LiveDraft → ℕ → ℕ → MutBor (List ℕ) → Fml
-LendsOwn d plane line row = Lends live_draft.the_row (Array u8 0) d row (λ bytes. record d.now { superbits = changed_own (λ b. with_row b plane line bytes) d.now.superbits })
+LendsOwn d plane line row =
+    Lends live_draft.the_row (Array u8 0) d row
+    (λ bytes. record d.now { superbits = changed_own (λ b. with_row b plane line bytes) d.now.superbits })
 
 abbrev pub LendsBuffer : MutBor LiveDraft → ℕ → ℕ → ℕ → MutBor (List ℕ) → Fml
 LendsBuffer d plane n line row = Lends live_draft.the_row (Array u8 0) d row (with_line_bytes plane n line d.now)

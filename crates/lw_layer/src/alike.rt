@@ -34,7 +34,8 @@ impl LiveDraft {
         requires sound { IsLiveDraft self.now }
         requires row { y < (layout self.now).height }
         requires some { 0 < most }
-        ensures { AreRowsAlike (kept_hidden self.now.kind (hidden_of self.now.bounds self.now.parts.visible)) (down (layout self.now) y) most result }
+        ensures { AreRowsAlike (kept_hidden self.now.kind (hidden_of self.now.bounds self.now.parts.visible))
+            (down (layout self.now) y) most result }
     {
         match self.kind {
             Kind::Simple => most,

@@ -52,7 +52,8 @@ impl Cell {
 
     /// The layer; `None` exactly where the slot isn't live.
     pub fn layer(&self) -> Option<&Layer>
-        ensures { MatchOption result (self.now.state ≡ view.Live → ⊥) (λ l. (self.now.state ≡ view.Live) × (l.now ≡ self.now.live)) }
+        ensures { MatchOption result (self.now.state ≡ view.Live → ⊥)
+            (λ l. (self.now.state ≡ view.Live) × (l.now ≡ self.now.live)) }
     {
         self.state.layer()
     }
@@ -60,7 +61,8 @@ impl Cell {
     /// Lends the layer; `None` exactly where the slot isn't live.
     pub fn layer_mut(&mut self) -> Option<&mut Layer>
         ensures* writes_back { sem 𝓛 (LendsLayer self.entry result) }
-        ensures layer { MatchOption result (self.old.state ≡ view.Live → ⊥) (λ l. (self.old.state ≡ view.Live) × (l.now ≡ self.old.live)) }
+        ensures layer { MatchOption result (self.old.state ≡ view.Live → ⊥)
+            (λ l. (self.old.state ≡ view.Live) × (l.now ≡ self.old.live)) }
     {
         self.state.layer_mut()
     }

@@ -39,7 +39,8 @@ impl LiveDraft {
         requires frameless { is_super make.now.kind ≡ true → is_framed (window_of window) ≡ false }
         requires frame { is_framed (window_of window) ≡ true → HasFrameRoom bounds.now }
         ensures draft { IfOk result (λ d. IsLiveDraft d) }
-        ensures layer { IfOk result (λ d. live_view d ≡ new_live make.now depth bounds.now visible.now (window_of window) (room_of window)) }
+        ensures layer { IfOk result (λ d. live_view d
+            ≡ new_live make.now depth bounds.now visible.now (window_of window) (room_of window)) }
     {
         let parts = Parts::cut(alloc, bounds, visible)?;
         let strips = blank_strips(alloc, bounds, parts.visible(), depth)?;

@@ -1,5 +1,5 @@
-// The next drawable or kept pixel of a row, by the lists of rectangles: from a column on to the first that is kept, from that one to the
-// first in the clip region, and from that one to the first damaged one, until nothing moves.
+// The next drawable or kept pixel of a row, by the lists of rectangles: from a column on to the first that is kept, from that one
+// to the first in the clip region, and from that one to the first damaged one, until nothing moves.
 
 ghost use Rattle.std.specs.Prelude.{◌≡◌, ℕ, ◌<◌, ◌≤◌, not, ◌||◌, pos};
 ghost use Rattle.lw_region.specs.Bands.{covers};

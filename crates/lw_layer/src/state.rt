@@ -47,7 +47,8 @@ impl CellState {
 
     // The layer, where it is live.
     pub(crate) fn layer(&self) -> Option<&Layer>
-        ensures { MatchOption result (state_in self.now ≡ view.Live → ⊥) (λ l. (state_in self.now ≡ view.Live) × (l.now ≡ live_in self.now)) }
+        ensures { MatchOption result (state_in self.now ≡ view.Live → ⊥)
+            (λ l. (state_in self.now ≡ view.Live) × (l.now ≡ live_in self.now)) }
     {
         match self {
             CellState::Unopened => None,
@@ -59,7 +60,8 @@ impl CellState {
     // The same, to be changed.
     pub(crate) fn layer_mut(&mut self) -> Option<&mut Layer>
         ensures* writes_back { sem 𝓛 (LendsLive self.entry result) }
-        ensures layer { MatchOption result (state_in self.old ≡ view.Live → ⊥) (λ l. (state_in self.old ≡ view.Live) × (l.now ≡ live_in self.old)) }
+        ensures layer { MatchOption result (state_in self.old ≡ view.Live → ⊥)
+            (λ l. (state_in self.old ≡ view.Live) × (l.now ≡ live_in self.old)) }
     {
         match self {
             CellState::Unopened => None,

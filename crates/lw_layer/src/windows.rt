@@ -65,8 +65,8 @@ impl Layer {
         take_oldest(&mut self.draft.window)
     }
 
-    /// Reserves room for `count` messages at least in the port of a window. It changes nothing else, and nothing of a layer that isn't
-    /// a window.
+    /// Reserves room for `count` messages at least in the port of a window. It changes nothing else, and nothing of a layer that
+    /// isn't a window.
     pub fn reserve(&mut self, alloc: Global, count: usize) -> Result<(), AllocError>
         ensures layer { roomless self.new ≡ roomless self.old }
         ensures room { OnOk result (is_window self.new.layer.window ≡ true → count ≤ self.new.room) }
@@ -157,7 +157,8 @@ fn reserve_room(
 fn put_last(window: &mut Option<WindowDraft>, message: Message)
     requires window { is_window (window_of window.old) ≡ true }
     requires room { 1 ≤ room_of window.old }
-    ensures window { window_of window.new ≡ changed_window (λ w. record w { port = w.port ++ message ∷ [] }) (window_of window.old) }
+    ensures window { window_of window.new
+        ≡ changed_window (λ w. record w { port = w.port ++ message ∷ [] }) (window_of window.old) }
     ensures room { room_of window.new ≡ room_of window.old - 1 }
 {
     match window {

@@ -14,7 +14,8 @@ use Rattle.lw_layer_calls.specs.Registers.{StandForRegisters}
 -- a call on the registers of its task
 abbrev pub IsRegistersStep : List (List Rectangle) → Call → Reply → List (List Rectangle) → Type 0
 IsRegistersStep old call r new =
-    (d : Desk) (task : ℕ) → StandForRegisters old (d.registers task) → (r ≡ reply d task call) × StandForRegisters new ((after d task call).registers task)
+    (d : Desk) (task : ℕ) → StandForRegisters old (d.registers task)
+    → (r ≡ reply d task call) × StandForRegisters new ((after d task call).registers task)
 
 -- what a call on a slot answers and leaves in one desk
 abbrev pub IsSlotStep : Desk → ℕ → ℕ → Call → Reply → CellView → Type 0

@@ -15,7 +15,8 @@ use std::alloc::{AllocError, Global};
 // Blits from a bitmap that the script handed in. Where it handed in none of this number, nothing is drawn.
 pub(crate) fn put(layer: &mut Layer, assets: &Assets, bitmap: u32, area: &Area) -> Reply
     requires { IsTrue (area_fits area.now) }
-    ensures { (task slot : ℕ) (regs : List (List Rectangle)) → IsLentStep task slot layer.old regs assets.now (Put bitmap slot area.now) result layer.new }
+    ensures { (task slot : ℕ) (regs : List (List Rectangle))
+        → IsLentStep task slot layer.old regs assets.now (Put bitmap slot area.now) result layer.new }
 {
     let Some(planes) = assets.bitmaps.get(bitmap as usize) else {
         // Reading this tells the proof that the layer's bits are a bitmap.

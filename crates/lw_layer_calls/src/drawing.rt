@@ -47,7 +47,8 @@ pub(crate) fn draw(layer: &mut Layer, x: i16, y: i16) -> Reply
 
 // Draws letters from the cursor on.
 pub(crate) fn letters(layer: &mut Layer, assets: &Assets, text: &Text) -> Reply
-    ensures { (task slot : ℕ) (regs : List (List Rectangle)) → IsLentStep task slot layer.old regs assets.now (Letters slot text.now) result layer.new }
+    ensures { (task slot : ℕ) (regs : List (List Rectangle))
+        → IsLentStep task slot layer.old regs assets.now (Letters slot text.now) result layer.new }
 {
     if !lw_text::letters(layer, assets, text) {
         return Reply::OutOfBounds;

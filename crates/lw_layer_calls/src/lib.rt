@@ -1,6 +1,6 @@
 //! The calls that arrange no layers (the manual's Layers Library and Graphics Primitives chapters), a function for each class of
-//! them. It is lent the parts of a desk that such a call touches: the registers of its task; LayerInfo, at which it looks; the cell
-//! of a layer, with the registers, what a script hands in and the number of the task; or the cells of two layers.
+//! them. It is lent the parts of a desk that such a call touches: the registers of its task; LayerInfo, at which it looks; the
+//! cell of a layer, with the registers, what a script hands in and the number of the task; or the cells of two layers.
 #![tactic(auto)]
 
 mod blitting;

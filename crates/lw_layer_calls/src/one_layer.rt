@@ -111,7 +111,8 @@ fn on_open(
 // Installs a copy of a register as clip region, and answers the one from before.
 fn clip(alloc: Global, layer: &mut Layer, regs: &Regs, reg: u32) -> Result<Reply, AllocError>
     requires { reg < 8 }
-    ensures step { IfOk result (λ r. (task slot : ℕ) (assets : AssetsView) → IsLentStep task slot layer.old regs.now assets (Clip slot reg) r layer.new) }
+    ensures step { IfOk result (λ r. (task slot : ℕ) (assets : AssetsView)
+        → IsLentStep task slot layer.old regs.now assets (Clip slot reg) r layer.new) }
     ensures unchanged { OnErr result (layer.new ≡ layer.old) }
 {
     if layer.look().updating {
@@ -133,7 +134,8 @@ fn unclip(layer: &mut Layer) -> Reply
 
 // Shows another portion of a super-bitmap layer's own bitmap.
 fn scroll(cell: &mut Cell, dx: i32, dy: i32) -> Reply
-    ensures step { (task : ℕ) (regs : List (List Rectangle)) (assets : AssetsView) → IsLayerStep task cell.old regs assets (Scroll cell.old.number dx dy) result cell.new }
+    ensures step { (task : ℕ) (regs : List (List Rectangle)) (assets : AssetsView)
+        → IsLayerStep task cell.old regs assets (Scroll cell.old.number dx dy) result cell.new }
     ensures number { cell.new.number ≡ cell.old.number }
 {
     let Some(layer) = cell.layer() else {

@@ -91,7 +91,8 @@ impl Regs {
         requires source { source < 8 }
         requires into { into < 8 }
         ensures reply { IfOk result (λ r. r ≡ set_reply (pair_result op (set_in self.old source) (set_in self.old into))) }
-        ensures regions { OnOk result (self.new ≡ with_set self.old into (pair_result op (set_in self.old source) (set_in self.old into))) }
+        ensures regions { OnOk result (self.new
+            ≡ with_set self.old into (pair_result op (set_in self.old source) (set_in self.old into))) }
         ensures err { OnErr result (self.new ≡ self.old) }
         ensures before { length self.old ≡ 8 }
         ensures eight { length self.new ≡ 8 }

@@ -1,5 +1,5 @@
-// The calls on a window (the manual's Intuition Windows chapter: SetWindowTitles and GetMsg; that a window belongs to the task that
-// opened it is this project's own).
+// The calls on a window (the manual's Intuition Windows chapter: SetWindowTitles and GetMsg; that a window belongs to the task
+// that opened it is this project's own).
 
 ghost use Rattle.std.specs.Prelude.{◌≡◌, ℕ, ◌≤◌, length, if◌then◌else◌, List, take, IfOk, OnErr};
 ghost use Rattle.lw_region.specs.Rectangle.{Rectangle};

@@ -43,13 +43,18 @@ pub record Stepped {E : Type 0} (desk : Desk) (old new : SeenHolder) (call : Cal
   pub same : OnErr result (new.seat.history ≡ old.seat.history)
 
 -- A pass made calls as a group that holds this, up to the first that failed.
-pub record CalledEach {A E : Type 0} (desk : Desk) (hold : Hold) (old new : SeenPass) (calls : List Call) (had has : List Answer) (result : Result A E) : Type 0 where
+pub record CalledEach
+    {A E : Type 0} (desk : Desk) (hold : Hold) (old new : SeenPass) (calls : List Call) (had has : List Answer)
+    (result : Result A E) : Type 0 where
   pub task : new.task ≡ old.task
-  pub done : GroupDone desk (Task old.task ∷ []) (Task old.task ∷ held_roles desk.sizes.slots hold) old.task old.history new.history calls had has
+  pub done : GroupDone desk (Task old.task ∷ [])
+      (Task old.task ∷ held_roles desk.sizes.slots hold) old.task old.history new.history calls had has
   pub all : MatchResult result (λ _. length has ≡ length had + length calls) (λ _. length has < length had + length calls)
 
 -- A task made calls, up to the first that failed, once it held these roles.
-pub record SteppedEach {A E : Type 0} (desk : Desk) (held : List Role) (old new : SeenHolder) (calls : List Call) (had has : List Answer) (result : Result A E) : Type 0 where
+pub record SteppedEach
+    {A E : Type 0} (desk : Desk) (held : List Role) (old new : SeenHolder) (calls : List Call) (had has : List Answer)
+    (result : Result A E) : Type 0 where
   pub task : new.task ≡ old.task
   pub roles : new.seat.roles ≡ old.seat.roles
   pub done : GroupDone desk old.seat.roles held old.task old.seat.history new.seat.history calls had has

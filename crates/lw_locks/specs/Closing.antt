@@ -29,7 +29,8 @@ HasEachSlot taken slots = (slot : ℕ) → slot < slots → Contains (slots_of t
 
 -- Each cell was taken with its own number, and stands for its slot, whose role the seat has.
 abbrev pub AreTaken : {I C R : Type 0} → Relations I C R → Desk → SeenSeat → List (ℕ × C) → Type 0
-AreTaken {C = C} relations desk seat taken = (slot : ℕ) (cell : C) → Contains taken (slot, cell) → (relations.number cell ≡ slot) × IsCell relations desk seat cell
+AreTaken {C = C} relations desk seat taken =
+    (slot : ℕ) (cell : C) → Contains taken (slot, cell) → (relations.number cell ≡ slot) × IsCell relations desk seat cell
 
 -- each cell was taken with its place as its number
 abbrev pub ArePlaced : {C : Type 0} → List (ℕ × C) → List C → Type 0
@@ -41,11 +42,15 @@ AreRegsHeld {R = R} relations desk seat all = (t : ℕ) (r : R) → slice_get al
 
 -- The seat has the role of each pass's task, and its history goes on from that of the pass with no further call of this task.
 abbrev pub AreFollowed : List SeenPass → SeenSeat → Type 0
-AreFollowed passes seat = (pass : SeenPass) → Contains passes pass → Contains seat.roles (Task pass.task) × Follows (Task pass.task ∷ []) pass.history seat.history
+AreFollowed passes seat =
+    (pass : SeenPass) → Contains passes pass
+    → Contains seat.roles (Task pass.task) × Follows (Task pass.task ∷ []) pass.history seat.history
 
--- All parts stand for the machine's desk after the whole history, in which the calls of each of these passes' tasks are those that the
--- pass made.
-pub record IsClosed {I C R : Type 0} (relations : Relations I C R) (name : TableId) (desk : Desk) (passes : List SeenPass) (layers : I) (cells : List C) (all : List R) (whole : SeenSeat) : Type 0 where
+-- All parts stand for the machine's desk after the whole history, in which the calls of each of these passes' tasks are those
+-- that the pass made.
+pub record IsClosed
+    {I C R : Type 0} (relations : Relations I C R) (name : TableId) (desk : Desk) (passes : List SeenPass) (layers : I)
+    (cells : List C) (all : List R) (whole : SeenSeat) : Type 0 where
   pub seat : IsSeat name desk whole
   pub parts : AreParts relations desk.sizes desk.assets layers cells (machine desk whole.history)
   pub tasks : length all ≡ desk.sizes.tasks

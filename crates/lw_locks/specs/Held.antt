@@ -35,7 +35,8 @@ abbrev pub desk_at : Desk → SeenSeat → Desk
 desk_at desk seat = machine desk seat.history
 
 -- Registers stand for those of a task, whose role the seat has.
-pub record AreRegs {I C R : Type 0} (relations : Relations I C R) (desk : Desk) (task : ℕ) (seat : SeenSeat) (mine : R) : Type 0 where
+pub record AreRegs
+    {I C R : Type 0} (relations : Relations I C R) (desk : Desk) (task : ℕ) (seat : SeenSeat) (mine : R) : Type 0 where
   pub has : Contains seat.roles (Task task)
   pub stand : relations.regs_is mine ((desk_at desk seat).registers task)
 
@@ -55,28 +56,35 @@ pub record IsInfo {I C R : Type 0} (relations : Relations I C R) (desk : Desk) (
 
 -- Each cell has its place as its number and stands for that slot, whose role the seat has.
 abbrev pub AreCellsHeld : {I C R : Type 0} → Relations I C R → Desk → SeenSeat → List C → Type 0
-AreCellsHeld {C = C} relations desk seat all = (s : ℕ) (c : C) → slice_get all s ≡ Some c → (relations.number c ≡ s) × IsCell relations desk seat c
+AreCellsHeld {C = C} relations desk seat all =
+    (s : ℕ) (c : C) → slice_get all s ≡ Some c → (relations.number c ≡ s) × IsCell relations desk seat c
 
 -- LayerInfo and the cells of the slots from 0 on stand for their parts, whose roles the seat has.
-pub record AreHeld {I C R : Type 0} (relations : Relations I C R) (desk : Desk) (seat : SeenSeat) (kept : I) (all : List C) : Type 0 where
+pub record AreHeld
+    {I C R : Type 0} (relations : Relations I C R) (desk : Desk) (seat : SeenSeat) (kept : I) (all : List C) : Type 0 where
   pub info : IsInfo relations desk seat kept
   pub cells : AreCellsHeld relations desk seat all
 
 -- A task's part: its registers, and a seat with its role and maybe others, which knows as many of its calls as it made.
-pub record IsHolding {I C R : Type 0} (relations : Relations I C R) (name : TableId) (desk : Desk) (task made : ℕ) (held : SeenSeat) (mine : R) : Type 0 where
+pub record IsHolding
+    {I C R : Type 0} (relations : Relations I C R) (name : TableId) (desk : Desk) (task made : ℕ) (held : SeenSeat)
+    (mine : R) : Type 0 where
   pub seat : IsSeat name desk held
   pub regs : AreRegs relations desk task held mine
   pub counted : made ≡ count_of task held.history
 
 -- A slot behind its lock: its cell, and a seat with its role.
-pub record IsLayer {I C R : Type 0} (relations : Relations I C R) (name : TableId) (desk : Desk) (slot : ℕ) (own : SeenSeat) (kept : C) : Type 0 where
+pub record IsLayer
+    {I C R : Type 0} (relations : Relations I C R) (name : TableId) (desk : Desk) (slot : ℕ) (own : SeenSeat)
+    (kept : C) : Type 0 where
   pub seat : IsSeat name desk own
   pub roles : own.roles ≡ Slot slot ∷ []
   pub number : relations.number kept ≡ slot
   pub cell : IsCell relations desk own kept
 
 -- LayerInfo behind its lock, and a seat with its role.
-pub record IsLayerInfo {I C R : Type 0} (relations : Relations I C R) (name : TableId) (desk : Desk) (own : SeenSeat) (kept : I) : Type 0 where
+pub record IsLayerInfo
+    {I C R : Type 0} (relations : Relations I C R) (name : TableId) (desk : Desk) (own : SeenSeat) (kept : I) : Type 0 where
   pub seat : IsSeat name desk own
   pub roles : own.roles ≡ Info ∷ []
   pub info : IsInfo relations desk own kept

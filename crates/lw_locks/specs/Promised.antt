@@ -1,5 +1,5 @@
--- What a caller of the locked desk learns: its call stands at its ticket in the one history, and was answered as the machine answers
--- there.
+-- What a caller of the locked desk learns: its call stands at its ticket in the one history, and was answered as the machine
+-- answers there.
 use Rattle.std.specs.Prelude.{◌≡◌, ℕ, List, [], ◌∷◌, ◌++◌, map}
 use Rattle.std.specs.List.{range_with_len}
 use Rattle.lw_calls.specs.declared.call.Call.{Call}
@@ -17,9 +17,11 @@ use Rattle.lw_machine.specs.History.{machine}
 use Rattle.lw_machine.specs.Step.{reply}
 use Rattle.lw_order.specs.Promised.{Follows, Added}
 
--- A call of a task was made: the new history goes on from the old one by steps that touch none of the roles, and ends in the call's
--- own step, whose place is the ticket. The reply is the machine's at that place.
-pub record Done (desk : Desk) (roles : List Role) (task : ℕ) (old new : List Entry) (call : Call) (said : TheReply) (ticket : ℕ) : Type 0 where
+-- A call of a task was made: the new history goes on from the old one by steps that touch none of the roles, and ends in the
+-- call's own step, whose place is the ticket. The reply is the machine's at that place.
+pub record Done
+    (desk : Desk) (roles : List Role) (task : ℕ) (old new : List Entry) (call : Call) (said : TheReply)
+    (ticket : ℕ) : Type 0 where
   pub added : Added roles old new task call ticket
   pub says : said ≡ reply (machine desk (old ++ added.between)) task call
 
@@ -33,14 +35,17 @@ abbrev pub held_roles : ℕ → Hold → List Role
 held_roles slots (OneSlot slot) = Slot slot ∷ []
 held_roles slots AllLayers = Info ∷ map (λ s. Slot s) (range_with_len 0 slots)
 
--- The calls of a task were made one after another, and had these answers. No step before or between them touches one of the roles.
+-- The calls of a task were made one after another, and had these answers. No step before or between them touches one of the
+-- roles.
 abbrev pub Ran : Desk → List Role → ℕ → List Entry → List Entry → List Call → List Answer → Type 0
 Ran desk roles task old new [] [] = new ≡ old
-Ran desk roles task old new (c ∷ cs) (a ∷ rest) = (mid : List Entry) × Done desk roles task old mid c a.reply a.ticket × Ran desk roles task mid new cs rest
+Ran desk roles task old new (c ∷ cs) (a ∷ rest) =
+    (mid : List Entry) × Done desk roles task old mid c a.reply a.ticket × Ran desk roles task mid new cs rest
 Ran desk roles task old new calls answers = ⊥
 
 -- The first of the calls were made, the answers to which came after what was there.
-pub record Grown (desk : Desk) (roles : List Role) (task : ℕ) (old new : List Entry) (calls : List Call) (had has : List Answer) : Type 0 where
+pub record Grown
+    (desk : Desk) (roles : List Role) (task : ℕ) (old new : List Entry) (calls : List Call) (had has : List Answer) : Type 0 where
   pub made : List Call
   pub left : List Call
   pub parts : calls ≡ made ++ left
@@ -50,7 +55,9 @@ pub record Grown (desk : Desk) (roles : List Role) (task : ℕ) (old new : List 
 
 -- The first of a group's calls were made as under one holding of its locks. No step up to where all were held touches one of the
 -- task's own roles, and no other task's step from there on one of those that it then had.
-pub record GroupDone (desk : Desk) (own held : List Role) (task : ℕ) (old new : List Entry) (calls : List Call) (had has : List Answer) : Type 0 where
+pub record GroupDone
+    (desk : Desk) (own held : List Role) (task : ℕ) (old new : List Entry) (calls : List Call)
+    (had has : List Answer) : Type 0 where
   pub start : List Entry
   pub follows : Follows own old start
   pub grown : Grown desk held task start new calls had has

@@ -79,8 +79,8 @@ impl<E: Engine, N: Opening> Desk<E, N> {
         done
     }
 
-    // Takes the locks of the slots whose cells aren't held, in rising number, makes the calls under all of them, and gives them back.
-    // No lock has another slot's layer; if one had, no call would be made.
+    // Takes the locks of the slots whose cells aren't held, in rising number, makes the calls under all of them, and gives them
+    // back. No lock has another slot's layer; if one had, no call would be made.
     fn under_slots<R: Wait, G: Gate>(
         &self,
         rt: &R,

@@ -37,7 +37,9 @@ impl<E: Engine, N: Opening> Desk<E, N> {
         requires fits { IsTrue (call_fits N.desk.sizes call.now) }
         requires room { count_of pass.old.task pass.old.history < 4294967295 }
         ensures task { pass.new.task ≡ pass.old.task }
-        ensures done { IfOk result (λ a. Done N.desk (Task pass.old.task ∷ []) pass.old.task pass.old.history pass.new.history call.now a.reply a.ticket) }
+        ensures done { IfOk result
+            (λ a. Done N.desk
+            (Task pass.old.task ∷ []) pass.old.task pass.old.history pass.new.history call.now a.reply a.ticket) }
         ensures failed { OnErr result (Follows (Task pass.old.task ∷ []) pass.old.history pass.new.history) }
     {
         let (task, seq) = (pass.task(), pass.made());
@@ -218,7 +220,8 @@ impl<E: Engine, N: Opening> Desk<E, N> {
         requires may { MayCall N.desk pass.old.task pass.old.history call.now }
         ensures slots { (result.0 ≡ first) × (result.1 ≡ second) }
         ensures task { pass.new.task ≡ pass.old.task }
-        ensures done { Done N.desk (Task pass.old.task ∷ []) pass.old.task pass.old.history pass.new.history call.now result.2.reply result.2.ticket }
+        ensures done { Done N.desk
+            (Task pass.old.task ∷ []) pass.old.task pass.old.history pass.new.history call.now result.2.reply result.2.ticket }
     {
         let Layer {
             slot: source,

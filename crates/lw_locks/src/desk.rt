@@ -17,8 +17,8 @@ use lw_engine_trait::Engine;
 use std::alloc::{AllocError, Global};
 use std::sync::Mutex;
 
-/// A desk whose parts lie behind locks, a lock for each layer and one for LayerInfo. Any number of threads may make calls on it, each
-/// with a pass of its own.
+/// A desk whose parts lie behind locks, a lock for each layer and one for LayerInfo. Any number of threads may make calls on it,
+/// each with a pass of its own.
 #[derive(Drop)]
 pub struct Desk<E: Engine, N: Opening> {
     pub(crate) steps: Steps<E, N>,
@@ -41,7 +41,9 @@ impl<E: Engine, N: Opening> Desk<E, N> {
         requires fits { IsTrue (call_fits N.desk.sizes call.now) }
         requires room { count_of pass.old.task pass.old.history < 4294967295 }
         ensures task { pass.new.task ≡ pass.old.task }
-        ensures done { IfOk result (λ a. Done N.desk (Task pass.old.task ∷ []) pass.old.task pass.old.history pass.new.history call.now a.reply a.ticket) }
+        ensures done { IfOk result
+            (λ a. Done N.desk
+            (Task pass.old.task ∷ []) pass.old.task pass.old.history pass.new.history call.now a.reply a.ticket) }
         ensures failed { OnErr result (pass.new ≡ pass.old) }
     {
         let (task, seq) = (pass.task(), pass.made());

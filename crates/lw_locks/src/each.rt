@@ -25,7 +25,8 @@ impl<E: Engine, N: Opening> Steps<E, N> {
         calls: &[Call],
         answers: &mut Vec<Answer>,
     ) -> Result<(), AllocError>
-        requires may { MayCallEach N.desk (OnLayer (E.relations.number cell.old)) holder.old.task holder.old.seat.history calls.now }
+        requires may { MayCallEach N.desk
+            (OnLayer (E.relations.number cell.old)) holder.old.task holder.old.seat.history calls.now }
         requires space { vec_len answers.old + length calls.now ≤ vec_capacity answers.old }
         requires cell { IsCell E.relations N.desk holder.old.seat cell.old }
         ensures stepped { SteppedEach N.desk holder.old.seat.roles holder.old holder.new calls.now answers.old.items answers.new.items result }

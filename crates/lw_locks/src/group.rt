@@ -23,8 +23,8 @@ use std::sync::Wait;
 
 impl<E: Engine, N: Opening> Desk<E, N> {
     /// Makes calls one after another under one holding of their locks: calls on the layer that is held, or on all
-    /// layers where all are. It may wait, and so promises no return. It ends with the first call that runs out of memory: the calls before it
-    /// have their answers after those that were there, and no further one is in the history.
+    /// layers where all are. It may wait, and so promises no return. It ends with the first call that runs out of memory: the
+    /// calls before it have their answers after those that were there, and no further one is in the history.
     pub fn group<R: Wait, G: Gate>(
         &self,
         rt: &R,
@@ -41,7 +41,8 @@ impl<E: Engine, N: Opening> Desk<E, N> {
         requires room { count_of pass.old.task pass.old.history + length calls.now ≤ 4294967295 }
         ensures task { pass.new.task ≡ pass.old.task }
         ensures done { GroupDone N.desk (Task pass.old.task ∷ []) (Task pass.old.task ∷ held_roles N.desk.sizes.slots hold) pass.old.task pass.old.history pass.new.history calls.now answers.old.items answers.new.items }
-        ensures all { MatchResult result (λ _. length answers.new.items ≡ length answers.old.items + length calls.now) (λ _. length answers.new.items < length answers.old.items + length calls.now) }
+        ensures all { MatchResult result (λ _. length answers.new.items ≡ length answers.old.items + length calls.now)
+            (λ _. length answers.new.items < length answers.old.items + length calls.now) }
     {
         let (task, seq) = (pass.task(), pass.made());
         gate.pass(task, seq, Spot::Before);

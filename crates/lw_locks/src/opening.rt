@@ -6,8 +6,8 @@ ghost use Rattle.lw_locks.specs.Openings.{no_sizes, no_word};
 
 use std::marker::Brand;
 
-/// Names one order word and one opening desk, so that values behind different locks are of one history. It has no functions: which
-/// word and desk are meant is picked once, by the caller of `Desk::start`.
+/// Names one order word and one opening desk, so that values behind different locks are of one history. It has no functions:
+/// which word and desk are meant is picked once, by the caller of `Desk::start`.
 pub trait Opening {
     ghost word: { TableId };
 

@@ -115,7 +115,8 @@ impl<E: Engine, N: Opening> Desk<E, N> {
         requires few { vec_len regs.old < 4294967296 }
         requires roles { (t : ℕ) → t < vec_len regs.old → Contains seat.old.roles (Task t) }
         requires regs { AreTasksRegs E.relations regs.old.items N.desk }
-        ensures passes { IfOk result (λ _. passes.new.items ≡ passes.old.items ++ map opening_pass (range_with_len 0 (vec_len regs.old))) }
+        ensures passes { IfOk result (λ _. passes.new.items
+            ≡ passes.old.items ++ map opening_pass (range_with_len 0 (vec_len regs.old))) }
     {
         let Some(mine) = regs.pop() else {
             return Ok(());

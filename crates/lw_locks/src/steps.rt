@@ -73,7 +73,8 @@ impl<E: Engine, N: Opening> Steps<E, N> {
     // Stamps a task's call that isn't on registers, and gives its ticket.
     fn stamp_step(&self, holder: &mut Holder<E, N>, call: &Call) -> u64
         requires registers { class_of call.now ≢ OnRegisters }
-        requires owns { Contains holder.old.seat.roles (Task holder.old.task) → Owns N.desk.sizes.slots holder.old.seat.roles (touch_of holder.old.task call.now) }
+        requires owns { Contains holder.old.seat.roles (Task holder.old.task)
+            → Owns N.desk.sizes.slots holder.old.seat.roles (touch_of holder.old.task call.now) }
         requires may { MayCall N.desk holder.old.task holder.old.seat.history call.now }
         ensures task { holder.new.task ≡ holder.old.task }
         ensures stamped { WasStamped N.desk holder.old.seat holder.new.seat holder.old.task call.now result }

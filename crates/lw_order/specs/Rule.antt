@@ -30,7 +30,8 @@ pub record Stands (sizes : Sizes) (whole : List Entry) (v : View) : Type 0 where
 -- no two views have a role in common
 abbrev pub HeldOnce : List View → Type 0
 HeldOnce views =
-    (i j : ℕ) (v w : View) (role : Role) → get_elem? views i ≡ some v → get_elem? views j ≡ some w → Contains v.roles role → Contains w.roles role → i ≡ j
+    (i j : ℕ) (v w : View) (role : Role) → get_elem? views i ≡ some v → get_elem? views j ≡ some w → Contains v.roles role
+    → Contains w.roles role → i ≡ j
 
 -- This history is the whole one: the word is its length, and each view stands well in it. Its steps are numbered, of
 -- tasks below the number of tasks and of calls that fit, and no task has more steps than can be numbered.

@@ -1,6 +1,7 @@
 ghost use Rattle.std.specs.Prelude.{◌≡◌, ℕ, ◌<◌, List, length};
 ghost use Rattle.lw_planes.specs.Bitmap.{Bitmap, IsBitmap, row_bytes};
-ghost use Rattle.lw_planes.specs.Laws.{TableHasItsValues, PenHasItsBits, BitmapIsItsPens, PlaneRowHasItsBits, RowWriteChangesItsRow};
+ghost use Rattle.lw_planes.specs.Laws.{TableHasItsValues, PenHasItsBits, BitmapIsItsPens, PlaneRowHasItsBits};
+ghost use Rattle.lw_planes.specs.Laws.{RowWriteChangesItsRow};
 
 /// A table has its values: the law of tables by column and row on which the pens of every bitmap stand.
 pub fn table_has_its_values()

@@ -2,7 +2,10 @@
 -- Families of calls by what their lines have after the first word.
 use Rattle.std.specs.Prelude.{Bool, true, false}
 use Rattle.lw_calls.specs.declared.call.Call.{Call}
-use Rattle.lw_calls.specs.declared.call.Call.TheVariants.{RegRect, RegPair, RegClear, Create, OpenWindow, Close, ToFront, ToBack, InFrontOf, SetBox, Activate, Which, Fill, Letters, ScrollRaster, Put, Blit, Unclip, BeginRefresh, EndRefresh, SetTitle, TakeMessage}
+use Rattle.lw_calls.specs.declared.call.Call.TheVariants.{RegRect, RegPair, RegClear, Create, OpenWindow, Close, ToFront}
+use Rattle.lw_calls.specs.declared.call.Call.TheVariants.{ToBack, InFrontOf, SetBox, Activate, Which, Fill, Letters}
+use Rattle.lw_calls.specs.declared.call.Call.TheVariants.{ScrollRaster, Put, Blit, Unclip, BeginRefresh, EndRefresh, SetTitle}
+use Rattle.lw_calls.specs.declared.call.Call.TheVariants.{TakeMessage}
 
 -- a layer comes first
 abbrev pub begins_with_a_layer : Call → Bool

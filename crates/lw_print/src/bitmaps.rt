@@ -31,8 +31,8 @@ pub fn push_bitmaps(
     Ok(())
 }
 
-/// The lines of a bitmap of this name, as they stand in a script: its name and sizes, and its rows plane by plane. The only error is
-/// running out of memory.
+/// The lines of a bitmap of this name, as they stand in a script: its name and sizes, and its rows plane by plane. The only error
+/// is running out of memory.
 pub fn print_bitmap(alloc: Global, name: &[u8], bitmap: &Planes) -> Result<Vec<u8>, AllocError>
     ensures { IfOk result (λ text. text.items ≡ bitmap_text name.now bitmap.now) }
 {

@@ -4,7 +4,8 @@ ghost use Rattle.std.specs.Prelude.{codes, ◌≡◌, ◌++◌, ◌∷◌, [], O
 ghost use Rattle.std.specs.Fmt.{signed_decimal};
 ghost use Rattle.lw_canonical.specs.Canonical.{created_layer, opened_layer};
 ghost use Rattle.lw_calls.specs.Written.{spaced_signed};
-ghost use Rattle.lw_canonical.specs.Spelling.{kind_word, place_word, four_words, flag_words, hook_words, class_letter, set_word, ask_words, created_words, opened_words_without_bitmap, opened_words};
+ghost use Rattle.lw_canonical.specs.Spelling.{kind_word, place_word, four_words, flag_words, hook_words, class_letter};
+ghost use Rattle.lw_canonical.specs.Spelling.{set_word, ask_words, created_words, opened_words_without_bitmap, opened_words};
 ghost use Rattle.lw_print.specs.Behind.{behind};
 
 use crate::words::{push_flag, push_four, push_hook, push_pair};

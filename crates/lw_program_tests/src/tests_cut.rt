@@ -164,8 +164,8 @@ fn each_read_and_each_write_fails_in_turn(rt: HostRuntime) -> Result<(), Fail> {
     Ok(())
 }
 
-// Of each byte of the script's lines, what is said of the bytes up to it: an unknown word, form, spacing, something missing below,
-// or that it's done.
+// Of each byte of the script's lines, what is said of the bytes up to it: an unknown word, form, spacing, something missing
+// below, or that it's done.
 static SAID: [&[u8]; 5] = [
     b"uuuuufsffsfsmm",
     b"uuufsmm",

@@ -89,8 +89,8 @@ fn a_picture_has_a_first_fault(rt: HostRuntime) -> Result<(), Fail> {
     Ok(())
 }
 
-// What one of the two calls answers and writes, `bitmap_cmd` of the file or `ilbm_cmd` of the script, where a read of 16 bytes fails
-// and a write of so many, each counted from 0.
+// What one of the two calls answers and writes, `bitmap_cmd` of the file or `ilbm_cmd` of the script, where a read of 16 bytes
+// fails and a write of so many, each counted from 0.
 fn answer_through_faults(
     alloc: Global,
     is_bitmap: bool,

@@ -9,8 +9,8 @@ use std::sync::Arc;
 use std::sync::atomic::{AtomicU32, Ordering};
 use std::test::Fail;
 
-// A simple layer whose hook is replaced, and which then is covered and uncovered, and a layer with a bitmap of its own that gets a
-// hook in a group, and is never filled; and the report.
+// A simple layer whose hook is replaced, and which then is covered and uncovered, and a layer with a bitmap of its own that gets
+// a hook in a group, and is never filled; and the report.
 const REPLACED: &[u8] = b"layers 2
 screen 16 1 2
 task a
@@ -59,8 +59,8 @@ fn replaced_hooks_are_reported(rt: HostRuntime) -> Result<(), Fail> {
     Ok(())
 }
 
-// Calls of one task on a screen of 16 by 1 pixels with one plane, after a first line or none, and the report behind its numbers of the
-// order.
+// Calls of one task on a screen of 16 by 1 pixels with one plane, after a first line or none, and the report behind its numbers
+// of the order.
 static OFF_SCREEN: [(&str, &str, &str); 5] = [
     // A smart layer leaves the screen by two columns, and comes back with what it had. In version 1 it may not leave.
     (
@@ -122,8 +122,8 @@ fn screens_are_wide_in_version_2(rt: HostRuntime) -> Result<(), Fail> {
     Ok(())
 }
 
-// What stands before and behind the line of the screen, the lines on a hook below the creation of a layer with the first hook, and the
-// first bad line with its reason.
+// What stands before and behind the line of the screen, the lines on a hook below the creation of a layer with the first hook,
+// and the first bad line with its reason.
 static VERSION_LINES: [(&str, &str, &str, &str); 4] = [
     ("", "", "hook w 5", "4 unknown-word"),
     ("layers 1\n", "", "hook w 5", "1 form"),
@@ -168,7 +168,8 @@ struct HookGate {
     right: AtomicU32,
 }
 
-// A layer that isn't open yet gets no hook, and the third one stays on the shelf. The layer gets the second one in place of the first.
+// A layer that isn't open yet gets no hook, and the third one stays on the shelf. The layer gets the second one in place of the
+// first.
 const THREE_HOOKS: &[u8] = b"layers 2
 screen 16 1 1
 task a

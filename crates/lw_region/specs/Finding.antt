@@ -1,5 +1,6 @@
 -- Where the pixels of a list in a row go on and where they begin again, from a column on to the right.
-use Rattle.std.specs.Prelude.{◌≡◌, Bool, true, false, ◌&&◌, ◌||◌, Option, Some, None, List, ℤ, pos, ◌+ℤ◌, ◌<ℤ◌, ◌≤ℤ◌, int_lt, int_le}
+use Rattle.std.specs.Prelude.{◌≡◌, Bool, true, false, ◌&&◌, ◌||◌, Option, Some, None, List, ℤ, pos, ◌+ℤ◌, ◌<ℤ◌, ◌≤ℤ◌, int_lt}
+use Rattle.std.specs.Prelude.{int_le}
 use Rattle.lw_region.specs.Rectangle.{Rectangle, has_pixel}
 use Rattle.lw_region.specs.Bands.{covers}
 
@@ -25,7 +26,8 @@ abbrev pub IsNextStart : List Rectangle → ℤ → ℤ → Option ℤ → Type 
 IsNextStart rects x y (Some next) = BeginsAt rects x y next
 IsNextStart rects x y None = (u : ℤ) → x ≤ℤ u → covers rects u y ≡ false
 
--- Words of this crate's private contracts alone, from here on: the rectangle is above row y, or has that row and is left of column x
+-- Words of this crate's private contracts alone, from here on: the rectangle is above row y, or has that row and is left of
+-- column x
 abbrev pub is_before : ℤ → ℤ → Rectangle → Bool
 is_before x y r = int_lt r.max_y y || (int_le r.min_y y && int_lt r.max_x x)
 

@@ -1,8 +1,10 @@
 -- What the operations on regions make, and the laws of canonical lists.
-use Rattle.std.specs.Prelude.{◌≡◌, ◌↔◌, ℕ, ◌<◌, Bool, true, false, ◌&&◌, ◌||◌, not, List, [], ◌∷◌, length, slice_index_or, map, ℤ, pos, ◌+ℤ◌, ◌-ℤ◌}
+use Rattle.std.specs.Prelude.{◌≡◌, ◌↔◌, ℕ, ◌<◌, Bool, true, false, ◌&&◌, ◌||◌, not, List, [], ◌∷◌, length, slice_index_or, map}
+use Rattle.std.specs.Prelude.{ℤ, pos, ◌+ℤ◌, ◌-ℤ◌}
 use Rattle.lw_region.specs.Rectangle.{Rectangle, has_pixel, AreApart, moved_by, IsWord}
 use Rattle.lw_region.specs.Order.{IsInOrder}
-use Rattle.lw_region.specs.Pixels.{Pixel, precedes, contains_pixel, pixels_of, union, intersection, difference, symmetric_difference}
+use Rattle.lw_region.specs.Pixels.{Pixel, precedes, contains_pixel, pixels_of, union, intersection, difference}
+use Rattle.lw_region.specs.Pixels.{symmetric_difference}
 use Rattle.lw_region.specs.Bands.{bands, covers}
 use Rattle.lw_region.specs.Banded.{IsCanonical, IsBanded}
 
@@ -22,7 +24,8 @@ BandsLaw =
     ((s : List Pixel) (x y : ℤ) → covers (bands s) x y ≡ contains_pixel s x y)
     × ((s : List Pixel) → IsCanonical (bands s)) × ((s : List Pixel) → IsInOrder precedes s → pixels_of (bands s) ≡ s)
 
--- a list is canonical exactly where it is the rectangles of bands from top to bottom, no two adjacent ones with equal runs, each with its runs from left to right, no two of which touch or overlap
+-- a list is canonical exactly where it is the rectangles of bands from top to bottom, no two adjacent ones with equal runs, each
+-- with its runs from left to right, no two of which touch or overlap
 abbrev pub BandedLaw : Type 0
 BandedLaw = (rects : List Rectangle) → IsCanonical rects ↔ IsBanded rects
 
@@ -35,7 +38,8 @@ OneListLaw =
 -- a canonical list with no pixel is empty, and the empty list has the empty set
 abbrev pub EmptyListLaw : Type 0
 EmptyListLaw =
-    ((rects : List Rectangle) → IsCanonical rects → ((x y : ℤ) → covers rects x y ≡ false) → rects ≡ []) × (pixels_of [] ≡ []) × (bands [] ≡ [])
+    ((rects : List Rectangle) → IsCanonical rects → ((x y : ℤ) → covers rects x y ≡ false) → rects ≡ []) × (pixels_of [] ≡ [])
+    × (bands [] ≡ [])
 
 -- no two rectangles of a canonical list have a pixel in common
 abbrev pub DisjointLaw : Type 0
@@ -79,7 +83,8 @@ pub record CombinedListsLaw : Type 0 where
   pub differences : (a b made : List Rectangle) → made ≡ bands (difference (pixels_of a) (pixels_of b))
       → IsListOf (difference (pixels_of a) (pixels_of b)) (λ x y. covers a x y && not (covers b x y)) made
   pub symmetric : (a b made : List Rectangle) → made ≡ bands (symmetric_difference (pixels_of a) (pixels_of b))
-      → IsListOf (symmetric_difference (pixels_of a) (pixels_of b)) (λ x y. (covers a x y && not (covers b x y)) || (covers b x y && not (covers a x y))) made
+      → IsListOf (symmetric_difference (pixels_of a) (pixels_of b))
+      (λ x y. (covers a x y && not (covers b x y)) || (covers b x y && not (covers a x y))) made
   pub single : (r : Rectangle) (x y : ℤ) → covers (r ∷ []) x y ≡ has_pixel r x y
 
 -- each pixel of the list still has coordinates of 16 bits when it is moved by dx columns to the right and dy rows down
@@ -99,7 +104,8 @@ MovedListLaw =
 -- sets in reading order with the same pixels are one set
 abbrev pub OneSetLaw : Type 0
 OneSetLaw =
-    (s t : List Pixel) → IsInOrder precedes s → IsInOrder precedes t → ((x y : ℤ) → contains_pixel s x y ≡ contains_pixel t x y) → s ≡ t
+    (s t : List Pixel) → IsInOrder precedes s → IsInOrder precedes t → ((x y : ℤ) → contains_pixel s x y ≡ contains_pixel t x y)
+    → s ≡ t
 
 -- the rectangle with these bounds
 abbrev pub rectangle : ℤ → ℤ → ℤ → ℤ → Rectangle
@@ -108,8 +114,11 @@ rectangle x₀ y₀ x₁ y₁ = record { min_x = x₀; min_y = y₀; max_x = x�
 -- a worked example: the pixels of 0 0 7 1 and of 2 1 5 2 that are not in both, in bands, and what 0 0 1 3 has of them
 abbrev pub WorkedExample : Type 0
 WorkedExample =
-    let apart = symmetric_difference (rectangle_set (rectangle (pos 0) (pos 0) (pos 7) (pos 1))) (rectangle_set (rectangle (pos 2) (pos 1) (pos 5) (pos 2))) in
+    let apart = symmetric_difference (rectangle_set (rectangle (pos 0) (pos 0) (pos 7) (pos 1)))
+    (rectangle_set (rectangle (pos 2) (pos 1) (pos 5) (pos 2))) in
     (bands apart
-    ≡ rectangle (pos 0) (pos 0) (pos 7) (pos 0) ∷ rectangle (pos 0) (pos 1) (pos 1) (pos 1) ∷ rectangle (pos 6) (pos 1) (pos 7) (pos 1)
+    ≡ rectangle (pos 0) (pos 0) (pos 7) (pos 0) ∷ rectangle (pos 0) (pos 1) (pos 1) (pos 1)
+    ∷ rectangle (pos 6) (pos 1) (pos 7) (pos 1)
     ∷ rectangle (pos 2) (pos 2) (pos 5) (pos 2) ∷ [])
-    × (bands (intersection apart (rectangle_set (rectangle (pos 0) (pos 0) (pos 1) (pos 3)))) ≡ rectangle (pos 0) (pos 0) (pos 1) (pos 1) ∷ [])
+    × (bands (intersection apart (rectangle_set (rectangle (pos 0) (pos 0) (pos 1) (pos 3))))
+    ≡ rectangle (pos 0) (pos 0) (pos 1) (pos 1) ∷ [])

@@ -1,6 +1,7 @@
 -- For private contracts.
 -- The rectangles of a region as bands of rows, and the sweep over the rows of two regions.
-use Rattle.std.specs.Prelude.{ℕ, Bool, true, false, cond, ◌&&◌, Option, Some, None, List, [], ◌∷◌, ◌++◌, map, take, drop, length, ℤ, pos, ◌+ℤ◌, int_lt, int_le, nat_lt}
+use Rattle.std.specs.Prelude.{ℕ, Bool, true, false, cond, ◌&&◌, Option, Some, None, List, [], ◌∷◌, ◌++◌, map, take, drop}
+use Rattle.std.specs.Prelude.{length, ℤ, pos, ◌+ℤ◌, int_lt, int_le, nat_lt}
 use Rattle.std.specs.List.{prefix_len, between}
 use Rattle.std.specs.Int.{int_max}
 use Rattle.std.specs.Ordering.{int_eq}
@@ -54,7 +55,8 @@ joined_bottom (q ∷ qs) (r ∷ rs) =
 abbrev pub down_to : Rectangle → ℤ → Rectangle
 down_to r bottom = record { min_x = r.min_x; min_y = r.min_y; max_x = r.max_x; max_y = int_max r.max_y bottom }
 
--- the list with its last band from `last` to `start` and a further one from `start` on joined, where they have this bottom row in common
+-- the list with its last band from `last` to `start` and a further one from `start` on joined, where they have this bottom row in
+-- common
 abbrev pub joined_rects : Option ℤ → List Rectangle → ℕ → ℕ → List Rectangle
 joined_rects None rects last start = rects
 joined_rects (Some bottom) rects last start = take last rects ++ map (λ r. down_to r bottom) (between last start rects)
@@ -67,10 +69,12 @@ last_place (Some bottom) rects last start = last
 -- the list with a further band from its end on, joined to its last band, from `last` on, where it goes on with the same columns
 abbrev pub joined_to : List Rectangle → ℕ → List Rectangle → List Rectangle
 joined_to out last band =
-    joined_rects (joined_bottom (between last (length out) (out ++ band)) (drop (length out) (out ++ band))) (out ++ band) last (length out)
+    joined_rects (joined_bottom (between last (length out) (out ++ band)) (drop (length out) (out ++ band))) (out ++ band) last
+    (length out)
 
 -- the list with all that is left of a region from row y on: its first band, and the others as they are
 unfoldable pub with_rest : List Rectangle → ℤ → ℕ → List Rectangle → List Rectangle
 with_rest [] y last out = out
 with_rest (r ∷ rs) y last out =
-    joined_to out last (run_rectangles (int_max y r.min_y) r.max_y (columns (take (first_length (r ∷ rs)) (r ∷ rs)))) ++ drop (first_length (r ∷ rs)) (r ∷ rs)
+    joined_to out last (run_rectangles (int_max y r.min_y) r.max_y (columns (take (first_length (r ∷ rs)) (r ∷ rs))))
+    ++ drop (first_length (r ∷ rs)) (r ∷ rs)

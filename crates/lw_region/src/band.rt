@@ -1,6 +1,7 @@
 ghost use Rattle.std.specs.Prelude.{◌≡◌, ◌≤◌, cond, map, length, take, drop, ◌++◌, pos, negsuc, ◌≤ℤ◌, vec_len};
 ghost use Rattle.std.specs.List.{between};
-ghost use Rattle.lw_region.specs.Rows.{band_length, first_length, first_row, next_row, begun_band, from_row, same_columns, joined_bottom, down_to, joined_rects, last_place};
+ghost use Rattle.lw_region.specs.Rows.{band_length, first_length, first_row, next_row, begun_band, from_row, same_columns};
+ghost use Rattle.lw_region.specs.Rows.{joined_bottom, down_to, joined_rects, last_place};
 
 use crate::rect::Rect;
 
@@ -158,8 +159,12 @@ fn stretch_from(rects: &mut Vec<Rect>, from: usize, bottom: i16)
 pub(crate) fn join_bands(rects: &mut Vec<Rect>, last: usize, start: usize) -> usize
     requires order { last ≤ start }
     requires inside { start ≤ vec_len rects.old }
-    ensures joined { rects.new.items ≡ joined_rects (joined_bottom (between last start rects.old.items) (drop start rects.old.items)) rects.old.items last start }
-    ensures place { result ≡ last_place (joined_bottom (between last start rects.old.items) (drop start rects.old.items)) rects.old.items last start }
+    ensures joined { rects.new.items
+        ≡ joined_rects
+        (joined_bottom (between last start rects.old.items) (drop start rects.old.items)) rects.old.items last start }
+    ensures place { result
+        ≡ last_place (joined_bottom (between last start rects.old.items)
+        (drop start rects.old.items)) rects.old.items last start }
 {
     let all = rects.as_slice();
     let bottom = joined_bottom(&all[last..start], &all[start..]);

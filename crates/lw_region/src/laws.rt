@@ -1,7 +1,8 @@
 // Laws of pixel sets and of canonical lists, for the crates above: each function does nothing, and its contract
 // is the law.
 
-ghost use Rattle.lw_region.specs.Regions.{SetOfListLaw, BandsLaw, BandedLaw, OneListLaw, EmptyListLaw, DisjointLaw, SetOperationsLaw, CombinedListsLaw, MovedListLaw, OneSetLaw, WorkedExample};
+ghost use Rattle.lw_region.specs.Regions.{SetOfListLaw, BandsLaw, BandedLaw, OneListLaw, EmptyListLaw, DisjointLaw};
+ghost use Rattle.lw_region.specs.Regions.{SetOperationsLaw, CombinedListsLaw, MovedListLaw, OneSetLaw, WorkedExample};
 
 /// A pixel is in the set of a list exactly where some rectangle of the list has it.
 pub fn set_of_list_law()

@@ -1,6 +1,7 @@
 ghost use Rattle.std.specs.Prelude.{◌≡◌, ◌≤◌, true, ◌&&◌, ◌↔◌, ℤ, pos, ◌+ℤ◌, ◌-ℤ◌, ◌≤ℤ◌, IfSome, IsNone, [], ◌∷◌};
 ghost use Rattle.std.specs.Option.{SomeIff};
-ghost use Rattle.lw_region.specs.Rectangle.{Rectangle, within, has_pixel, IsOrdered, width, height, AreApart, common_part, moved_by, IsWord, HasWords};
+ghost use Rattle.lw_region.specs.Rectangle.{Rectangle, within, has_pixel, IsOrdered, width, height, AreApart, common_part};
+ghost use Rattle.lw_region.specs.Rectangle.{moved_by, IsWord, HasWords};
 ghost use Rattle.lw_region.specs.Banded.{IsCanonical};
 ghost use Rattle.lw_region.specs.Rows.{down_to};
 

@@ -1,8 +1,10 @@
-ghost use Rattle.std.specs.Prelude.{◌≡◌, Bool, true, false, cond, ◌≤◌, ◌<◌, ◌+◌, List, [], ◌∷◌, ◌++◌, ℤ, pos, negsuc, ◌+ℤ◌, ◌-ℤ◌, ◌≤ℤ◌, ◌<ℤ◌, length, vec_len, vec_capacity, OnOk};
+ghost use Rattle.std.specs.Prelude.{◌≡◌, Bool, true, false, cond, ◌≤◌, ◌<◌, ◌+◌, List, [], ◌∷◌, ◌++◌, ℤ, pos, negsuc, ◌+ℤ◌};
+ghost use Rattle.std.specs.Prelude.{◌-ℤ◌, ◌≤ℤ◌, ◌<ℤ◌, length, vec_len, vec_capacity, OnOk};
 ghost use Rattle.std.specs.Int.{int_min, int_max};
 ghost use Rattle.lw_region.specs.Banded.{AreRuns};
 ghost use Rattle.lw_region.specs.declared.operation.Operation.TheVariants.{Union, Intersection, SymmetricDifference, Difference};
-ghost use Rattle.lw_region.specs.Columns.{columns, first_column, first_end, others, some_run, run_rectangles, next_bound, behind_bound, IsRowOf};
+ghost use Rattle.lw_region.specs.Columns.{columns, first_column, first_end, others, some_run, run_rectangles, next_bound};
+ghost use Rattle.lw_region.specs.Columns.{behind_bound, IsRowOf};
 
 use crate::operation::Operation;
 use crate::rect::Rect;

@@ -3,7 +3,9 @@
 use Rattle.std.specs.Prelude.{ℕ, List, [], ◌∷◌, ◌++◌, codes, length}
 use Rattle.std.specs.List.{flat_map, slice_index_or}
 use Rattle.lw_calls.specs.declared.reply.Reply.{Reply}
-use Rattle.lw_calls.specs.declared.reply.Reply.TheVariants.{Done, Pen, Outside, Nothing, Layer, Rects, Got, NotOpen, AlreadyOpen, NotWindow, NotOwner, Backdrop, NotSuper, InUpdate, NotInUpdate, OutOfBounds, TooManyRects}
+use Rattle.lw_calls.specs.declared.reply.Reply.TheVariants.{Done, Pen, Outside, Nothing, Layer, Rects, Got, NotOpen}
+use Rattle.lw_calls.specs.declared.reply.Reply.TheVariants.{AlreadyOpen, NotWindow, NotOwner, Backdrop, NotSuper, InUpdate}
+use Rattle.lw_calls.specs.declared.reply.Reply.TheVariants.{NotInUpdate, OutOfBounds, TooManyRects}
 use Rattle.lw_calls.specs.declared.last.Seen.{Seen}
 use Rattle.lw_machine.specs.Report.{message_text, visible_text, damage_text, messages_text}
 use Rattle.lw_calls.specs.Written.{spaced, spaced_bounds}

@@ -20,7 +20,9 @@ pub fn push_planes(alloc: Global, out: &mut Vec<u8>, planes: &Planes) -> Result<
 
 /// Writes the line with the sizes of the screen.
 fn push_sizes(alloc: Global, out: &mut Vec<u8>, planes: &Planes) -> Result<(), AllocError>
-    ensures { OnOk result (out.new.items ≡ out.old.items ++ line_of (codes "planes" ++ spaced planes.now.width ++ spaced planes.now.height ++ spaced planes.now.depth)) }
+    ensures { OnOk result (out.new.items
+        ≡ out.old.items
+        ++ line_of (codes "planes" ++ spaced planes.now.width ++ spaced planes.now.height ++ spaced planes.now.depth)) }
 {
     out.extend_from_slice(b"planes")?;
     push_spaced(alloc, out, planes.width() as usize)?;
@@ -31,7 +33,8 @@ fn push_sizes(alloc: Global, out: &mut Vec<u8>, planes: &Planes) -> Result<(), A
 
 /// Writes each plane in rising number.
 fn push_each_plane(alloc: Global, out: &mut Vec<u8>, planes: &Planes) -> Result<(), AllocError>
-    ensures { OnOk result (out.new.items ≡ out.old.items ++ flat_map (plane_lines planes.now) (range_with_len 0 planes.now.depth)) }
+    ensures { OnOk result (out.new.items
+        ≡ out.old.items ++ flat_map (plane_lines planes.now) (range_with_len 0 planes.now.depth)) }
 {
     for plane in 0..planes.depth() {
         push_plane(alloc, out, planes, plane)?;

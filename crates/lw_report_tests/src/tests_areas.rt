@@ -3,8 +3,8 @@ use lw_answers::answer_to;
 use lw_top::Status;
 use std::test::Fail;
 
-// What stands before the task, an area on a layer that is the whole of a screen of 16 by 4 pixels with one plane, the rows that are
-// left, and the replies of the creation and of the fills.
+// What stands before the task, an area on a layer that is the whole of a screen of 16 by 4 pixels with one plane, the rows that
+// are left, and the replies of the creation and of the fills.
 static AREAS: [(&str, &str, &str, &str); 5] = [
     (
         "",

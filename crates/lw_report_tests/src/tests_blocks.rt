@@ -1,12 +1,13 @@
-//! Blocks of pixels that are filled, moved and scrolled: cut by clip regions, by damage and by layers in front. The reports were worked out
-//! apart from this program, by a machine of its own that has one bitmap a layer.
+//! Blocks of pixels that are filled, moved and scrolled: cut by clip regions, by damage and by layers in front. The reports were
+//! worked out apart from this program, by a machine of its own that has one bitmap a layer.
 use lw_answers::answer_with_six;
 use lw_top::Status;
 use std::test::Fail;
 
 // Scripts and their reports.
 static BLOCKS: [(&[u8], &[u8]); 3] = [
-    // Blocks of one buffer move in all eight directions, by fewer rows than they have, at odd columns, and under a minterm; and are scrolled.
+    // Blocks of one buffer move in all eight directions, by fewer rows than they have, at odd columns, and under a minterm; and
+    // are scrolled.
     (
         b"screen 44 14 2
 task a
@@ -92,8 +93,8 @@ ok
 done
 ",
     ),
-    // The same where two layers cover parts of the blocks, whose pens then lie in buffers of their own; and fills, one inverting, are cut by a
-    // clip region. At last the layer comes to the front and shows all.
+    // The same where two layers cover parts of the blocks, whose pens then lie in buffers of their own; and fills, one inverting,
+    // are cut by a clip region. At last the layer comes to the front and shows all.
     (
         b"screen 44 14 2
 task a
@@ -203,8 +204,8 @@ ok
 done
 ",
     ),
-    // A simple layer's blocks are cut by what covers it and, in an update, by its damage; sources that it doesn't keep leave pixels as they
-    // were, between two layers too.
+    // A simple layer's blocks are cut by what covers it and, in an update, by its damage; sources that it doesn't keep leave
+    // pixels as they were, between two layers too.
     (
         b"screen 44 14 2
 task a

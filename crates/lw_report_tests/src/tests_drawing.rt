@@ -120,9 +120,9 @@ ok
 done
 ",
     ),
-    // The pixel 10 of the simple layer was covered and so is damaged; 8 isn't in the clip region. Scrolled one column to the left are
-    // the columns 2 to 9, and then 10 to 14, which pass the right edge; column 2 is scrolled up from below the layer, and the columns -3
-    // to 1 are scrolled to the right.
+    // The pixel 10 of the simple layer was covered and so is damaged; 8 isn't in the clip region. Scrolled one column to the left
+    // are the columns 2 to 9, and then 10 to 14, which pass the right edge; column 2 is scrolled up from below the layer, and the
+    // columns -3 to 1 are scrolled to the right.
     (
         b"screen 16 1 2
 task a
@@ -179,7 +179,8 @@ ok
 done
 ",
     ),
-    // All of a super-bitmap layer's own bitmap is kept: what is scrolled and blitted off the portion that is shown is there later.
+    // All of a super-bitmap layer's own bitmap is kept: what is scrolled and blitted off the portion that is shown is there
+    // later.
     (
         b"screen 16 1 1
 task a
@@ -207,11 +208,11 @@ ok
 done
 ",
     ),
-    // The columns 0 to 2 and 11 to 15 of a smart layer and of a simple one are covered. The bitmap, which has one plane, is put into
-    // both, and then into the first inverted, and inverted where the bitmap has a bit, from above its rows and left of the layer. The
-    // first layer's own pixels are blitted one down and to the right, one up and to the left, and in their rows; then those of the
-    // second one, and some from rows above all of them. The second one, of pens 2 and 3 then, is blitted onto itself from its
-    // covered columns too.
+    // The columns 0 to 2 and 11 to 15 of a smart layer and of a simple one are covered. The bitmap, which has one plane, is put
+    // into both, and then into the first inverted, and inverted where the bitmap has a bit, from above its rows and left of the
+    // layer. The first layer's own pixels are blitted one down and to the right, one up and to the left, and in their rows; then
+    // those of the second one, and some from rows above all of them. The second one, of pens 2 and 3 then, is blitted onto itself
+    // from its covered columns too.
     (
         b"screen 16 8 2
 bitmap b 16 4 1
@@ -295,12 +296,12 @@ ok
 done
 ",
     ),
-    // The columns 0, 1, 6 and 7 of a smart, a simple and a super-bitmap layer are covered, and the bitmap's pens are 0 to 7, 8 to 15,
-    // 1 1 2 2 3 3 4 4 and 5 5 6 6 7 7 8 8, row by row. The first layer is scrolled to the left, in some rows and columns to the
-    // right, in its columns 0 to 3 up, and in two planes to the left and down. What comes into the second one from covered pixels is
-    // damaged; the damage moves along, and stays on a pixel that takes pen B, and goes where an undamaged pixel comes. It is
-    // scrolled down into a clip region of one row, and in an update, in which its two damaged pixels alone change. The third one is
-    // scrolled from its covered columns too.
+    // The columns 0, 1, 6 and 7 of a smart, a simple and a super-bitmap layer are covered, and the bitmap's pens are 0 to 7, 8 to
+    // 15, 1 1 2 2 3 3 4 4 and 5 5 6 6 7 7 8 8, row by row. The first layer is scrolled to the left, in some rows and columns to
+    // the right, in its columns 0 to 3 up, and in two planes to the left and down. What comes into the second one from covered
+    // pixels is damaged; the damage moves along, and stays on a pixel that takes pen B, and goes where an undamaged pixel comes.
+    // It is scrolled down into a clip region of one row, and in an update, in which its two damaged pixels alone change. The
+    // third one is scrolled from its covered columns too.
     (
         b"screen 16 12 4
 bitmap b 8 4 4
@@ -457,8 +458,8 @@ ok
 done
 ",
     ),
-    // Of a framed window with four columns and three rows inside, the columns from 8 on are covered. What is scrolled in from there is
-    // damaged, but for the frame's rows; then nothing comes onto the frame's row 14, nor onto its column 3.
+    // Of a framed window with four columns and three rows inside, the columns from 8 on are covered. What is scrolled in from
+    // there is damaged, but for the frame's rows; then nothing comes onto the frame's row 14, nor onto its column 3.
     (
         b"screen 16 16 1
 task a
@@ -506,9 +507,9 @@ ok
 done
 ",
     ),
-    // Three letters on a simple layer and on a super-bitmap layer, of each of which the columns 3 to 10 are visible: one in JAM2, one
-    // with INVERSVID beside it, and one that inverts, over both and with its last row below the layer. Then all of the second layer is
-    // shown.
+    // Three letters on a simple layer and on a super-bitmap layer, of each of which the columns 3 to 10 are visible: one in JAM2,
+    // one with INVERSVID beside it, and one that inverts, over both and with its last row below the layer. Then all of the second
+    // layer is shown.
     (
         b"screen 32 8 1
 glyph 41 183c66667e666600

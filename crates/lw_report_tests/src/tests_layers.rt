@@ -87,8 +87,8 @@ not-super
 done
 ",
     ),
-    // What is refused of a backdrop layer and of the layer in front of it, and of a name that isn't open yet, or no longer. A layer of
-    // one pixel stands in the last column, and is put in front of one that is created there.
+    // What is refused of a backdrop layer and of the layer in front of it, and of a name that isn't open yet, or no longer. A
+    // layer of one pixel stands in the last column, and is put in front of one that is created there.
     (
         b"screen 16 1 1
 task a

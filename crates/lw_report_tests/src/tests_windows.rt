@@ -4,8 +4,8 @@ use std::test::Fail;
 
 // Commands, scripts with windows, and their reports.
 static WINDOWED: [(&str, &[u8], &[u8]); 6] = [
-    // The hook fills all with pen 1, and the frame of pen 2 is painted over it. Sized, the hook fills the new column and the pixel of
-    // the old frame that lies in the inner rectangle now, which is damaged; then the whole frame is painted.
+    // The hook fills all with pen 1, and the frame of pen 2 is painted over it. Sized, the hook fills the new column and the
+    // pixel of the old frame that lies in the inner rectangle now, which is damaged; then the whole frame is painted.
     (
         "run",
         b"screen 16 16 2
@@ -62,8 +62,8 @@ ok
 done
 ",
     ),
-    // One window is active at most. The second activation tells both windows; the third changes nothing. The closed window's port is
-    // gone, and then none is active: not the new one, until the first is again.
+    // One window is active at most. The second activation tells both windows; the third changes nothing. The closed window's port
+    // is gone, and then none is active: not the new one, until the first is again.
     (
         "run",
         b"screen 16 2 1
@@ -107,7 +107,8 @@ ok
 done
 ",
     ),
-    // What another task opened it can't refresh, name, ask for messages or close, but move. A layer that was created is no window.
+    // What another task opened it can't refresh, name, ask for messages or close, but move. A layer that was created is no
+    // window.
     (
         "replay",
         b"screen 16 1 1
@@ -157,9 +158,9 @@ ok
 done
 ",
     ),
-    // A super-bitmap window shows the columns 4 to 7 of its bitmap after the scroll, of which 4 to 6 have pen 1, and its second row
-    // once it is higher. Nothing is damaged, so it isn't asked to refresh; it has no frame, as the active window too, and shows no
-    // title. Its bitmap has no ninth column.
+    // A super-bitmap window shows the columns 4 to 7 of its bitmap after the scroll, of which 4 to 6 have pen 1, and its second
+    // row once it is higher. Nothing is damaged, so it isn't asked to refresh; it has no frame, as the active window too, and
+    // shows no title. Its bitmap has no ninth column.
     (
         "run",
         b"screen 16 2 1
@@ -197,8 +198,8 @@ out-of-bounds
 done
 ",
     ),
-    // A window that asks for all messages is told in their order. The one behind it, which is active then, shows its active frame once the
-    // first is closed; the glyph of its title is its first column.
+    // A window that asks for all messages is told in their order. The one behind it, which is active then, shows its active frame
+    // once the first is closed; the glyph of its title is its first column.
     (
         "run",
         b"screen 11 15 3

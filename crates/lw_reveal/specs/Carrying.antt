@@ -35,7 +35,8 @@ pub record IsNewStrip (c : LiveView) (bounds r : Rectangle) (given : Bool) (s : 
   pub pens : given ≡ false → held_by s ≡ Some (carried c bounds r)
 
 -- the same of all rectangles
-pub record AreNewStrips (c : LiveView) (bounds : Rectangle) (rects : List Rectangle) (given : List Bool) (strips : List StripView) :
+pub record AreNewStrips
+    (c : LiveView) (bounds : Rectangle) (rects : List Rectangle) (given : List Bool) (strips : List StripView) :
     Type 0 where
   pub shown : rects_of strips ≡ rects
   pub each : (i : ℕ) (s : StripView) → i < length rects → slice_index_or given i false ≡ false

@@ -25,9 +25,9 @@ across_to c bounds visible = record {
 abbrev pub windowless : Layer → Layer
 windowless l = record l { window = None }
 
--- The live layer with these bounds and visible rectangles: each pixel that it kept before has its pen still, one that it gains has
--- pen 0, and its damage is that of the revealed layer. So in a framed window whose size changes the pixels of the old frame that lie
--- in the new inner rectangle have their pens so far: they have to be filled as those are that the layer gains.
+-- The live layer with these bounds and visible rectangles: each pixel that it kept before has its pen still, one that it gains
+-- has pen 0, and its damage is that of the revealed layer. So in a framed window whose size changes the pixels of the old frame
+-- that lie in the new inner rectangle have their pens so far: they have to be filled as those are that the layer gains.
 abbrev pub carried_to : Rectangle → List Rectangle → LiveView → LiveView
 carried_to bounds visible c =
     let a = across_to c bounds visible in

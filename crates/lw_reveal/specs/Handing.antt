@@ -29,7 +29,8 @@ pub record HasPlace (to : Option ℕ) (b : Bitmap) (rects : List Rectangle) (hid
 
 -- and those of all bitmaps
 abbrev pub HavePlaces : List (Option ℕ) → List Bitmap → List Rectangle → ℕ → Type 0
-HavePlaces handed former rects hidden = (n : ℕ) (b : Bitmap) → n < length former → HasPlace (slice_index_or handed n None) (slice_index_or former n b) rects hidden
+HavePlaces handed former rects hidden =
+    (n : ℕ) (b : Bitmap) → n < length former → HasPlace (slice_index_or handed n None) (slice_index_or former n b) rects hidden
 
 -- the own bitmap of a layer of this kind, if it has one, with all pens of the layer
 abbrev pub own_whole : Kind → LiveDraft → Option Bitmap

@@ -33,9 +33,9 @@ pub(crate) fn damage_after(
 }
 
 /// The pixels that the live layer keeps and that count as kept once it has these bounds, in layer coordinates: in a framed window
-/// whose size changes not those of its old frame that lie in the new inner rectangle. Of a super-bitmap layer there are none, since
-/// none of its pixels is ever damaged or filled (the manual's Layers Library chapter: the damage list; which pixels count is this
-/// project's own). It fails only when out of memory.
+/// whose size changes not those of its old frame that lie in the new inner rectangle. Of a super-bitmap layer there are none,
+/// since none of its pixels is ever damaged or filled (the manual's Layers Library chapter: the damage list; which pixels count
+/// is this project's own). It fails only when out of memory.
 pub fn counted_region(alloc: Global, layer: &Layer, bounds: &Rect) -> Result<Region, AllocError>
     requires wide { width bounds.now ≤ 2048 }
     requires high { height bounds.now ≤ 2048 }

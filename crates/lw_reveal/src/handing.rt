@@ -20,7 +20,8 @@ pub(crate) fn hand_all(
 )
     requires many { length handed.now ≡ length shown.old.items + length hidden.old.items }
     requires solid { All (λ s. s.solid ≡ true) shown.old.items }
-    requires places { HavePlaces handed.now (planes_of shown.old.items ++ hidden.old.items) (rects_of strips.old) (length covered.old) }
+    requires places { HavePlaces handed.now (planes_of shown.old.items ++ hidden.old.items) (rects_of strips.old)
+        (length covered.old) }
     ensures held { held_in strips.new covered.new ≡
         handed_over handed.now (planes_of shown.old.items ++ hidden.old.items) (held_in strips.old covered.old) }
     ensures rects { rects_of strips.new ≡ rects_of strips.old }
@@ -41,7 +42,8 @@ fn hand_strips(
     requires long { length former.old.items ≤ length handed.now }
     requires solid { All (λ s. s.solid ≡ true) former.old.items }
     requires places { HavePlaces handed.now (planes_of former.old.items) (rects_of strips.old) (length covered.old) }
-    ensures held { held_in strips.new covered.new ≡ handed_over handed.now (planes_of former.old.items) (held_in strips.old covered.old) }
+    ensures held { held_in strips.new covered.new
+        ≡ handed_over handed.now (planes_of former.old.items) (held_in strips.old covered.old) }
     ensures rects { rects_of strips.new ≡ rects_of strips.old }
     ensures long { length covered.new ≡ length covered.old }
 {

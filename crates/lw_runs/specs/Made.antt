@@ -1,5 +1,6 @@
 -- What a task's calls left of the history that its pass knows.
-use Rattle.std.specs.Prelude.{◌≡◌, ◌⊎◌, ℕ, ◌+◌, ◌<◌, ◌≤◌, ◌==◌, Bool, true, false, not, ◌&&◌, ◌||◌, if◌then◌else◌, List, [], ◌∷◌, ◌++◌, length, map, take, All}
+use Rattle.std.specs.Prelude.{◌≡◌, ◌⊎◌, ℕ, ◌+◌, ◌<◌, ◌≤◌, ◌==◌, Bool, true, false, not, ◌&&◌, ◌||◌, if◌then◌else◌, List, []}
+use Rattle.std.specs.Prelude.{◌∷◌, ◌++◌, length, map, take, All}
 use Rattle.std.specs.List.{list_any}
 use Rattle.lw_calls.specs.declared.call.Call.{Call}
 use Rattle.lw_calls.specs.declared.entry.Entry.{Entry}
@@ -33,11 +34,14 @@ is_within groups made touch = list_any (λ g. is_open made g && meets g.hold tou
 abbrev pub keeps_apart : List Group → ℕ → ℕ → List Entry → Bool
 keeps_apart groups task made [] = true
 keeps_apart groups task made (e ∷ es) =
-    ((e.task == task) || not (is_within groups made (touch_of e.task e.call))) && keeps_apart groups task ((if e.task == task then 1 else 0) + made) es
+    ((e.task == task) || not (is_within groups made (touch_of e.task e.call)))
+    && keeps_apart groups task ((if e.task == task then 1 else 0) + made) es
 
--- Just these calls of a task stand in the history, in their order. It was told these replies of the machine, and as tickets the places
--- in the history. Its groups were kept.
-pub record HasTold (desk : Desk) (groups : List Group) (task : ℕ) (made : List Call) (history : List Entry) (said : List Reply) (places : List ℕ) : Type 0 where
+-- Just these calls of a task stand in the history, in their order. It was told these replies of the machine, and as tickets the
+-- places in the history. Its groups were kept.
+pub record HasTold
+    (desk : Desk) (groups : List Group) (task : ℕ) (made : List Call) (history : List Entry) (said : List Reply)
+    (places : List ℕ) : Type 0 where
   pub calls : calls_of task history ≡ made
   pub replies : said ≡ replies_of desk task history
   pub tickets : places ≡ places_of task 0 history
@@ -45,13 +49,15 @@ pub record HasTold (desk : Desk) (groups : List Group) (task : ℕ) (made : List
 
 -- the same where replies and tickets are those of answers
 abbrev pub HasMade : Desk → List Group → ℕ → List Call → List Entry → List Answer → Type 0
-HasMade desk groups task made history answers = HasTold desk groups task made history (map (λ a. a.reply) answers) (map (λ a. a.ticket) answers)
+HasMade desk groups task made history answers =
+    HasTold desk groups task made history (map (λ a. a.reply) answers) (map (λ a. a.ticket) answers)
 
 -- Words of this crate's private contracts.
 
 -- the first calls of a plan's task were made, one for each answer
 abbrev pub HasBegun : Desk → Plan → ℕ → List Entry → List Answer → Type 0
-HasBegun desk plan task history answers = HasMade desk (task_groups plan task) task (take (length answers) (task_calls plan task)) history answers
+HasBegun desk plan task history answers =
+    HasMade desk (task_groups plan task) task (take (length answers) (task_calls plan task)) history answers
 
 -- a task that made so many calls is within none of its groups
 abbrev pub IsFree : List Group → ℕ → Type 0

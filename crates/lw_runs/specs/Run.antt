@@ -16,7 +16,8 @@ next_of plan past task = next_entry task (count_of task past) (slice_get (task_c
 
 -- The machine after the steps of the past, with these hooks handed in, is a desk for which the parts stand, and each task was
 -- told its replies in them. Which desks the parts stand for is an argument.
-pub record HasRun (plan : Plan) (hooks : List Hook) (past : List Entry) (standing : Desk → Type 0) (told : List (List Reply)) : Type 0 where
+pub record HasRun
+    (plan : Plan) (hooks : List Hook) (past : List Entry) (standing : Desk → Type 0) (told : List (List Reply)) : Type 0 where
   pub stands : standing (machine (opening_desk plan hooks) past)
   pub lists : length told ≡ plan.sizes.tasks
   pub each : (t : ℕ) → t < plan.sizes.tasks → slice_index_or told t [] ≡ replies_of (opening_desk plan hooks) t past

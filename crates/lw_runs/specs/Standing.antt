@@ -10,9 +10,11 @@ use Rattle.lw_machine.specs.Desk.{Desk}
 use Rattle.lw_machine.specs.Step.{after, reply}
 use Rattle.lw_engine_trait.specs.Steps.{Relations, IsTwoStep, AreParts}
 
--- LayerInfo and the cells of all slots stand for their parts of a sound desk with these sizes and assets, and each task's registers
--- for its part.
-pub record StandForDesk {I C R : Type 0} (relations : Relations I C R) (sizes : Sizes) (assets : Assets) (info : I) (cells : List C) (regs : List R) (d : Desk) : Type 0 where
+-- LayerInfo and the cells of all slots stand for their parts of a sound desk with these sizes and assets, and each task's
+-- registers for its part.
+pub record StandForDesk
+    {I C R : Type 0} (relations : Relations I C R) (sizes : Sizes) (assets : Assets) (info : I) (cells : List C) (regs : List R)
+    (d : Desk) : Type 0 where
   pub layers : AreParts relations sizes assets info cells d
   pub tasks : length regs ≡ sizes.tasks
   pub registers : (t : ℕ) (r : R) → slice_get regs t ≡ Some r → relations.regs_is r (d.registers t)
@@ -43,6 +45,8 @@ pub record IsSetTo {C : Type 0} (Holds : C → Type 0) (place : ℕ) (old new : 
   pub holds : Holds value
 
 -- what a call on two layers, of which it reads the first alone, answers and leaves of the second
-pub record IsTwoDone {I C R : Type 0} (relations : Relations I C R) (sizes : Sizes) (assets : Assets) (source old : C) (call : Call) (r : Reply) (new : C) : Type 0 where
+pub record IsTwoDone
+    {I C R : Type 0} (relations : Relations I C R) (sizes : Sizes) (assets : Assets) (source old : C) (call : Call) (r : Reply)
+    (new : C) : Type 0 where
   pub number : relations.number new ≡ relations.number old
   pub step : IsTwoStep relations sizes assets source old call r new

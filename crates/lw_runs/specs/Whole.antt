@@ -15,11 +15,14 @@ use Rattle.lw_runs.specs.Made.{places_of, HasTold}
 
 -- A task of the plan made all its calls, and was told this.
 abbrev pub HasAll : Desk → Plan → ℕ → List Entry → TaskAnswers → Type 0
-HasAll desk plan task history told = HasTold desk (task_groups plan task) task (task_calls plan task) history told.replies told.tickets.items
+HasAll desk plan task history told =
+    HasTold desk (task_groups plan task) task (task_calls plan task) history told.replies told.tickets.items
 
 -- each task did, in the history that its pass knows
 abbrev pub EachHasAll : Desk → Plan → List SeenPass → List TaskAnswers → Type 0
-EachHasAll desk plan passes all = (t : ℕ) (p : SeenPass) (told : TaskAnswers) → slice_get passes t ≡ Some p → slice_get all t ≡ Some told → (p.task ≡ t) × HasAll desk plan t p.history told
+EachHasAll desk plan passes all =
+    (t : ℕ) (p : SeenPass) (told : TaskAnswers) → slice_get passes t ≡ Some p → slice_get all t ≡ Some told
+    → (p.task ≡ t) × HasAll desk plan t p.history told
 
 -- each task did, in one history
 abbrev pub AllHaveAll : Desk → Plan → List Entry → List TaskAnswers → Type 0
@@ -35,7 +38,9 @@ pub record IsOrdered (plan : Plan) (history : List Entry) : Type 0 where
   pub stands : entries plan [] (order_of history) ≡ history
 
 -- All tasks of a plan ran to their end in one history, and LayerInfo and the cells stand for the machine's desk after it.
-pub record HaveRun {I C R : Type 0} (relations : Relations I C R) (desk : Desk) (plan : Plan) (layers : I) (cells : List C) (history : List Entry) (all : List TaskAnswers) : Type 0 where
+pub record HaveRun
+    {I C R : Type 0} (relations : Relations I C R) (desk : Desk) (plan : Plan) (layers : I) (cells : List C)
+    (history : List Entry) (all : List TaskAnswers) : Type 0 where
   pub parts : AreParts relations desk.sizes desk.assets layers cells (machine desk history)
   pub known : IsHistory desk.sizes history
   pub many : length all ≡ plan.sizes.tasks

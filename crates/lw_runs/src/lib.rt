@@ -1,5 +1,5 @@
-//! The machine's run of a plan over any engine: in an order that is given, on the parts of one desk and with no lock; and of tasks on
-//! threads, on a desk whose parts lie behind locks, in the order that their tickets give.
+//! The machine's run of a plan over any engine: in an order that is given, on the parts of one desk and with no lock; and of
+//! tasks on threads, on a desk whose parts lie behind locks, in the order that their tickets give.
 #![tactic(auto)]
 
 mod answers;

@@ -17,7 +17,8 @@ use lw_calls::{Call, Plan, Replies};
 use lw_engine_trait::Engine;
 use std::alloc::{AllocError, Global};
 
-/// The run of a plan on these parts in an order of its tasks: each number makes its task's next call. It fails only when out of memory.
+/// The run of a plan on these parts in an order of its tasks: each number makes its task's next call. It fails only when out of
+/// memory.
 pub fn run_in_order<E: Engine>(
     alloc: Global,
     engine: &E,

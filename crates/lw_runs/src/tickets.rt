@@ -12,7 +12,8 @@ use std::alloc::{AllocError, Global};
 pub fn order_by(alloc: Global, all: &[TaskAnswers]) -> Result<Vec<u32>, AllocError>
     requires few { length all.now ≤ 16 }
     requires tickets { (es : List Entry) × AreTickets es all.now × TasksBelow (length all.now) es }
-    ensures { IfOk result (λ order. (es : List Entry) → AreTickets es all.now → TasksBelow (length all.now) es → order.items ≡ order_of es) }
+    ensures { IfOk result (λ order. (es : List Entry) → AreTickets es all.now → TasksBelow (length all.now) es
+        → order.items ≡ order_of es) }
 {
     let mut order = zeros(alloc, all)?;
     for task in 0..all.len() {
@@ -27,7 +28,8 @@ pub fn order_by(alloc: Global, all: &[TaskAnswers]) -> Result<Vec<u32>, AllocErr
 
 // As many zeros as there are tickets.
 fn zeros(alloc: Global, all: &[TaskAnswers]) -> Result<Vec<u32>, AllocError>
-    ensures { IfOk result (λ order. (es : List Entry) → AreTickets es all.now → order.items ≡ replicate (count_below (length all.now) es) 0) }
+    ensures { IfOk result (λ order. (es : List Entry) → AreTickets es all.now
+        → order.items ≡ replicate (count_below (length all.now) es) 0) }
 {
     let mut order = Vec::new(alloc);
     for told in all {

@@ -1,6 +1,7 @@
 -- For private contracts.
 -- An area that was read, with its rectangles, and what a line adds that was read, an area or not.
-use Rattle.std.specs.Prelude.{◌≡◌, ℕ, ◌+◌, ◌==◌, true, false, if◌then◌else◌, List, [], ◌∷◌, ◌++◌, map, Option, option_map, Result, Ok, Err, Vec, Bool}
+use Rattle.std.specs.Prelude.{◌≡◌, ℕ, ◌+◌, ◌==◌, true, false, if◌then◌else◌, List, [], ◌∷◌, ◌++◌, map, Option, option_map}
+use Rattle.std.specs.Prelude.{Result, Ok, Err, Vec, Bool}
 use Rattle.std.specs.declared.alloc.Global.{Global}
 use Rattle.lw_area.specs.declared.point.Point.{Point}
 use Rattle.lw_area.specs.Areas.{area_rectangles}

@@ -1,6 +1,7 @@
 -- For private contracts.
 -- How the numbers of an order section are read: one after another, each of which can go on up to the byte at which it stops.
-use Rattle.std.specs.Prelude.{ℕ, zero, suc, ◌+◌, ◌-◌, ◌==◌, ◌&&◌, nat_le, if◌then◌else◌, List, [], ◌∷◌, ◌++◌, drop, replicate, Result, Ok, Err}
+use Rattle.std.specs.Prelude.{ℕ, zero, suc, ◌+◌, ◌-◌, ◌==◌, ◌&&◌, nat_le, if◌then◌else◌, List, [], ◌∷◌, ◌++◌, drop, replicate}
+use Rattle.std.specs.Prelude.{Result, Ok, Err}
 use Rattle.lw_grammar.specs.Demands.{◌>>=◌}
 use Rattle.lw_machine.specs.Report.{separator}
 
@@ -17,7 +18,8 @@ after_one end (b ∷ bs) = if nat_le 48 b && nat_le b 53 then end_read end (b - 
 -- A number below 16 that this byte ends: the number, and its bytes with that end; or how many bytes begin one.
 abbrev pub number_read : ℕ → List ℕ → Result (ℕ × ℕ) ℕ
 number_read end [] = Err 0
-number_read end (b ∷ bs) = if b == 49 then after_one end bs else (if nat_le 48 b && nat_le b 57 then end_read end (b - 48) 1 bs else Err 0)
+number_read end (b ∷ bs) =
+    if b == 49 then after_one end bs else (if nat_le 48 b && nat_le b 57 then end_read end (b - 48) 1 bs else Err 0)
 
 -- what is read behind these numbers, which have so many bytes
 abbrev pub onto : List ℕ → ℕ → Result (List ℕ) ℕ → Result (List ℕ) ℕ

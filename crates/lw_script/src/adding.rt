@@ -2,7 +2,9 @@
 ghost use Rattle.std.specs.Prelude.{◌≡◌, ◌≤◌, ◌++◌, pos, unsigned_abs, IsTrue, OnOk, List, ◌∷◌, length, map};
 ghost use Rattle.std.specs.List.{list_all};
 ghost use Rattle.lw_region.specs.Rectangle.{within};
-ghost use Rattle.lw_grammar.specs.Statements.{Statement as StatementValue, ScreenLine, GlyphLine, BitmapLine, RowLine, PatternLine, TaskLine, NumbersLine, CallLine, LockLine, UnlockLine, HoldLine, ReleaseLine, NameSeen, PairMade};
+ghost use Rattle.lw_grammar.specs.Statements.{Statement as StatementValue, ScreenLine, GlyphLine, BitmapLine, RowLine};
+ghost use Rattle.lw_grammar.specs.Statements.{PatternLine, TaskLine, NumbersLine, CallLine, LockLine, UnlockLine, HoldLine};
+ghost use Rattle.lw_grammar.specs.Statements.{ReleaseLine, NameSeen, PairMade};
 ghost use Rattle.lw_words.specs.Digits.{decoded};
 ghost use Rattle.lw_grammar.specs.Script.{Setting};
 ghost use Rattle.lw_words.specs.Cuts.{targets};

@@ -1,7 +1,10 @@
 //! Tasks, groups and calls added to those that were read.
-ghost use Rattle.std.specs.Prelude.{Bool, ◌≡◌, ℕ, ◌+◌, ◌<◌, ◌≤◌, false, if◌then◌else◌, IsTrue, IfOk, OnOk, List, ◌∷◌, length, map, option_map, bytes_eq};
+ghost use Rattle.std.specs.Prelude.{Bool, ◌≡◌, ℕ, ◌+◌, ◌<◌, ◌≤◌, false, if◌then◌else◌, IsTrue, IfOk, OnOk, List, ◌∷◌, length};
+ghost use Rattle.std.specs.Prelude.{map, option_map, bytes_eq};
 ghost use Rattle.std.specs.List.{list_any};
-ghost use Rattle.lw_grammar.specs.Statements.{Statement as StatementValue, TaskLine, LockLine, UnlockLine, HoldLine, ReleaseLine, NameSeen, PairMade, CallLine, layers_of, is_hook_number, is_act_in_range};
+ghost use Rattle.lw_grammar.specs.Statements.{Statement as StatementValue, TaskLine, LockLine, UnlockLine, HoldLine};
+ghost use Rattle.lw_grammar.specs.Statements.{ReleaseLine, NameSeen, PairMade, CallLine, layers_of, is_hook_number};
+ghost use Rattle.lw_grammar.specs.Statements.{is_act_in_range};
 ghost use Rattle.lw_grammar.specs.Told.{and_name, and_names, place_among, onto_last, makes_super, and_hook, left_open_by, told};
 ghost use Rattle.lw_grammar.specs.Script.{is_ending};
 ghost use Rattle.lw_words.specs.Cuts.{targets};
@@ -76,7 +79,8 @@ fn note_hook(used: &mut IndexSet<u32>, number: Option<i64>) -> Result<(), AllocE
 /// How many lines asked for a super-bitmap layer, with a call's.
 fn supers_with(supers: u32, act: &Act<'_>) -> u32
     requires { supers ≤ 16 }
-    ensures { (layers : List (List ℕ)) → result ≡ (if makes_super (CallLine layers (act_meaning act.now)) then 1 else 0) + supers }
+    ensures { (layers : List (List ℕ))
+        → result ≡ (if makes_super (CallLine layers (act_meaning act.now)) then 1 else 0) + supers }
 {
     if act.makes_super() {
         supers + 1

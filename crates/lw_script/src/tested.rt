@@ -3,7 +3,8 @@ ghost use Rattle.std.specs.Prelude.{◌≡◌, nat_le, length, IsTrue};
 ghost use Rattle.lw_calls.specs.Limits.{limits_of};
 ghost use Rattle.lw_grammar.specs.Statements.{StatementLine, is_line_in_range};
 ghost use Rattle.lw_grammar.specs.Told.{and_name, hook_on, told_with};
-ghost use Rattle.lw_grammar.specs.Script.{lacks_name, gives_again, group_has_calls, fits_group, super_limit, are_few, is_no_hook, is_used, has_padding, line_tested};
+ghost use Rattle.lw_grammar.specs.Script.{lacks_name, gives_again, group_has_calls, fits_group, super_limit, are_few};
+ghost use Rattle.lw_grammar.specs.Script.{is_no_hook, is_used, has_padding, line_tested};
 ghost use Rattle.lw_statements.specs.StatementMeaning.{statement_meaning};
 ghost use Rattle.lw_script.specs.ReaderKnows.{known, setting_of};
 

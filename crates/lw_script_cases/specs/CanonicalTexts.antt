@@ -12,7 +12,11 @@ use Rattle.lw_calls.specs.declared.make.Place.TheVariants.{Front, Behind}
 use Rattle.lw_calls.specs.declared.make.Make.{Make}
 use Rattle.lw_calls.specs.declared.area.Area.{Area}
 use Rattle.lw_calls.specs.declared.call.Call.{Call}
-use Rattle.lw_calls.specs.declared.call.Call.TheVariants.{RegRect, RegPair, RegClear, Create, OpenWindow, Close, ToFront, ToBack, InFrontOf, MoveBy, SizeBy, SetBox, Activate, Which, SetA, SetB, SetMode, SetMask, At, WritePixel, ReadPixel, DrawTo, Letters, SetRast, ScrollRaster, Put, Blit, Clip, Unclip, BeginRefresh, EndRefresh, Scroll, SetTitle, TakeMessage}
+use Rattle.lw_calls.specs.declared.call.Call.TheVariants.{RegRect, RegPair, RegClear, Create, OpenWindow, Close, ToFront}
+use Rattle.lw_calls.specs.declared.call.Call.TheVariants.{ToBack, InFrontOf, MoveBy, SizeBy, SetBox, Activate, Which, SetA}
+use Rattle.lw_calls.specs.declared.call.Call.TheVariants.{SetB, SetMode, SetMask, At, WritePixel, ReadPixel, DrawTo, Letters}
+use Rattle.lw_calls.specs.declared.call.Call.TheVariants.{SetRast, ScrollRaster, Put, Blit, Clip, Unclip, BeginRefresh}
+use Rattle.lw_calls.specs.declared.call.Call.TheVariants.{EndRefresh, Scroll, SetTitle, TakeMessage}
 use Rattle.lw_calls.specs.declared.group.Hold.TheVariants.{Slot, All}
 use Rattle.lw_calls.specs.Plan.{Plan, no_assets}
 use Rattle.lw_grammar.specs.Script.{ScriptInput}
@@ -42,25 +46,36 @@ area sx sy x y w h minterm = record { sx = pos sx; sy = pos sy; x = pos x; y = p
 -- the calls of three tasks: a clock's update, an editor's lock, and a painter's hold
 abbrev clock_calls : List Call
 clock_calls =
-    OpenWindow 0 (record (window_of Simple Front 10 10 120 60) { hook = Some 4 }) true false 7 (codes "A") ∷ OpenWindow 1 (window_of Smart Behind 100 40 200 100) true false 1 (codes "B") ∷ fill 0 8 16 60 40 ∷ BeginRefresh 0 ∷ SetA 0 2 ∷ fill 0 4 11 115 57 ∷ EndRefresh 0 true ∷ TakeMessage 0 ∷ []
+    OpenWindow 0 (record (window_of Simple Front 10 10 120 60) { hook = Some 4 }) true false 7 (codes "A")
+    ∷ OpenWindow 1 (window_of Smart Behind 100 40 200 100) true false 1 (codes "B") ∷ fill 0 8 16 60 40 ∷ BeginRefresh 0
+    ∷ SetA 0 2 ∷ fill 0 4 11 115 57 ∷ EndRefresh 0 true ∷ TakeMessage 0 ∷ []
 
 abbrev edit_calls : List Call
 edit_calls =
-    OpenWindow 2 (window_of Smart Front 60 30 300 120) true false 15 (codes "AB") ∷ SetA 2 3 ∷ At 2 (pos 10) (pos 30) ∷ Letters 2 (codes "AB BA") ∷ DrawTo 2 (pos 200) (pos 90) ∷ Activate 2 ∷ MoveBy 2 (pos 20) (pos 10) ∷ SizeBy 2 (pos 40) (pos 20) ∷ TakeMessage 2 ∷ []
+    OpenWindow 2 (window_of Smart Front 60 30 300 120) true false 15 (codes "AB") ∷ SetA 2 3 ∷ At 2 (pos 10) (pos 30)
+    ∷ Letters 2 (codes "AB BA") ∷ DrawTo 2 (pos 200) (pos 90) ∷ Activate 2 ∷ MoveBy 2 (pos 20) (pos 10)
+    ∷ SizeBy 2 (pos 40) (pos 20) ∷ TakeMessage 2 ∷ []
 
 abbrev paint_calls : List Call
 paint_calls =
-    OpenWindow 3 (window_of Simple Front 300 100 200 90) true true 0 (codes "B") ∷ OpenWindow 4 (record (window_of SuperBitmap Behind 20 150 100 80) { bits_w = 256; bits_h = 256 }) false false 4 (codes "canvas") ∷ Put 0 4 (area 0 0 4 4 8 2 192) ∷ Scroll 4 (pos 16) (pos 16) ∷ RegRect Or 0 (rect 10 20 100 60) ∷ Clip 3 0 ∷ SetRast 3 1 ∷ Blit 3 3 (area 10 20 12 22 40 20 96) ∷ ToFront 3 ∷ InFrontOf 4 3 ∷ Which (pos 320) (pos 120) ∷ []
+    OpenWindow 3 (window_of Simple Front 300 100 200 90) true true 0 (codes "B")
+    ∷ OpenWindow 4 (record (window_of SuperBitmap Behind 20 150 100 80) { bits_w = 256; bits_h = 256 }) false false 4
+    (codes "canvas") ∷ Put 0 4 (area 0 0 4 4 8 2 192) ∷ Scroll 4 (pos 16) (pos 16) ∷ RegRect Or 0 (rect 10 20 100 60)
+    ∷ Clip 3 0 ∷ SetRast 3 1 ∷ Blit 3 3 (area 10 20 12 22 40 20 96) ∷ ToFront 3 ∷ InFrontOf 4 3 ∷ Which (pos 320) (pos 120)
+    ∷ []
 
 abbrev pub three_tasks : Plan
 three_tasks =
-    with_bitmap (codes "dot") (stored 8 2 1 (255 ∷ 0 ∷ 129 ∷ 0 ∷ [])) (with_glyph 65 (24 ∷ 60 ∷ 102 ∷ 102 ∷ 126 ∷ 102 ∷ 102 ∷ 0 ∷ []) (with_glyph 66 (124 ∷ 102 ∷ 102 ∷ 124 ∷ 102 ∷ 102 ∷ 124 ∷ 0 ∷ []) (record {
+    with_bitmap (codes "dot") (stored 8 2 1 (255 ∷ 0 ∷ 129 ∷ 0 ∷ []))
+    (with_glyph 65 (24 ∷ 60 ∷ 102 ∷ 102 ∷ 126 ∷ 102 ∷ 102 ∷ 0 ∷ [])
+    (with_glyph 66 (124 ∷ 102 ∷ 102 ∷ 124 ∷ 102 ∷ 102 ∷ 124 ∷ 0 ∷ []) (record {
       sizes = record { version = 1; width = 640; height = 256; depth = 2; slots = 5; tasks = 3; hooks = 6; bitmaps = 0 };
       slot_names = codes "clk" ∷ codes "log" ∷ codes "ed" ∷ codes "pal" ∷ codes "can" ∷ [];
       task_names = codes "clock" ∷ codes "edit" ∷ codes "paint" ∷ [];
       bitmap_names = [];
       calls = clock_calls ∷ edit_calls ∷ paint_calls ∷ [];
-      groups = (record { first = 3; last = 6; hold = Slot 0 } ∷ []) ∷ (record { first = 1; last = 4; hold = Slot 2 } ∷ []) ∷ (record { first = 8; last = 9; hold = All } ∷ []) ∷ [];
+      groups = (record { first = 3; last = 6; hold = Slot 0 } ∷ []) ∷ (record { first = 1; last = 4; hold = Slot 2 } ∷ [])
+          ∷ (record { first = 8; last = 9; hold = All } ∷ []) ∷ [];
       pairs = [];
       assets = no_assets;
     })))
@@ -80,8 +95,14 @@ three_tasks_input = record { plan = three_tasks; order = []; rest = 790 }
 -- another
 abbrev pub all_asked : Plan
 all_asked =
-    record (one_task 16 4 1 (codes "w" ∷ codes "v" ∷ codes "s" ∷ []) (Create 0 (record (window_of Simple Behind 0 0 8 4) { x = negsuc 2; backdrop = true; hook = Some 0 }) ∷ OpenWindow 1 (record (window_of Smart Front 0 0 9 14) { y = negsuc 0; backdrop = true; hook = Some 12 }) false true 31 [] ∷ OpenWindow 2 (record (window_of SuperBitmap Front 1 2 3 4) { backdrop = true; bits_w = 5; bits_h = 6 }) false false 16 (codes "a b") ∷ SetA 0 255 ∷ SetA 1 0 ∷ EndRefresh 1 false ∷ ToFront 0 ∷ [])) {
-      groups = (record { first = 3; last = 3; hold = Slot 0 } ∷ record { first = 4; last = 4; hold = Slot 1 } ∷ record { first = 6; last = 6; hold = All } ∷ []) ∷ [];
+    record (one_task 16 4 1 (codes "w" ∷ codes "v" ∷ codes "s" ∷ [])
+    (Create 0 (record (window_of Simple Behind 0 0 8 4) { x = negsuc 2; backdrop = true; hook = Some 0 })
+    ∷ OpenWindow 1 (record (window_of Smart Front 0 0 9 14) { y = negsuc 0; backdrop = true; hook = Some 12 }) false true 31
+    [] ∷ OpenWindow 2
+    (record (window_of SuperBitmap Front 1 2 3 4) { backdrop = true; bits_w = 5; bits_h = 6 }) false false 16 (codes "a b")
+    ∷ SetA 0 255 ∷ SetA 1 0 ∷ EndRefresh 1 false ∷ ToFront 0 ∷ [])) {
+      groups = (record { first = 3; last = 3; hold = Slot 0 } ∷ record { first = 4; last = 4; hold = Slot 1 }
+          ∷ record { first = 6; last = 6; hold = All } ∷ []) ∷ [];
     }
 
 abbrev pub all_asked_text : List ℕ
@@ -91,7 +112,15 @@ all_asked_text =
 -- further calls, each with numbers that differ, and two bitmaps of which one has two planes
 abbrev pub further_calls : Plan
 further_calls =
-    with_bitmap (codes "c") (stored 17 1 1 (255 ∷ 255 ∷ 128 ∷ 0 ∷ [])) (with_bitmap (codes "b") (stored 1 1 2 (128 ∷ 0 ∷ 0 ∷ 0 ∷ [])) (one_task 16 4 2 (codes "w" ∷ codes "v" ∷ []) (Create 0 (record (window_of SuperBitmap Front 1 2 6 5) { bits_w = 8; bits_h = 9 }) ∷ Close 0 ∷ ToBack 0 ∷ SetBox 0 (pos 1) (pos 2) (pos 3) (pos 4) ∷ InFrontOf 0 1 ∷ Activate 1 ∷ SetB 0 7 ∷ SetMode 0 5 ∷ SetMask 0 254 ∷ WritePixel 0 (pos 1) (negsuc 1) ∷ ReadPixel 0 (pos 3) (pos 4) ∷ ScrollRaster 0 (negsuc 0) (pos 2) (rect 3 4 5 6) ∷ Put 1 0 (area 1 2 3 4 5 6 224) ∷ Blit 0 1 (area 1 2 3 4 5 6 16) ∷ Scroll 0 (negsuc 2) (pos 4) ∷ SetTitle 1 (codes "T u") ∷ Unclip 0 ∷ RegRect And 1 (rect 2 3 4 5) ∷ RegRect Xor 2 (rect 0 0 9 8) ∷ RegRect Clear 3 (rect 1 0 1 0) ∷ RegPair OrPair 1 2 ∷ RegPair AndPair 3 4 ∷ RegPair XorPair 5 6 ∷ RegClear 7 ∷ [])))
+    with_bitmap (codes "c") (stored 17 1 1 (255 ∷ 255 ∷ 128 ∷ 0 ∷ []))
+    (with_bitmap (codes "b") (stored 1 1 2 (128 ∷ 0 ∷ 0 ∷ 0 ∷ []))
+    (one_task 16 4 2 (codes "w" ∷ codes "v" ∷ [])
+    (Create 0 (record (window_of SuperBitmap Front 1 2 6 5) { bits_w = 8; bits_h = 9 }) ∷ Close 0 ∷ ToBack 0
+    ∷ SetBox 0 (pos 1) (pos 2) (pos 3) (pos 4) ∷ InFrontOf 0 1 ∷ Activate 1 ∷ SetB 0 7 ∷ SetMode 0 5 ∷ SetMask 0 254
+    ∷ WritePixel 0 (pos 1) (negsuc 1) ∷ ReadPixel 0 (pos 3) (pos 4) ∷ ScrollRaster 0 (negsuc 0) (pos 2) (rect 3 4 5 6)
+    ∷ Put 1 0 (area 1 2 3 4 5 6 224) ∷ Blit 0 1 (area 1 2 3 4 5 6 16) ∷ Scroll 0 (negsuc 2) (pos 4) ∷ SetTitle 1 (codes "T u")
+    ∷ Unclip 0 ∷ RegRect And 1 (rect 2 3 4 5) ∷ RegRect Xor 2 (rect 0 0 9 8) ∷ RegRect Clear 3 (rect 1 0 1 0)
+    ∷ RegPair OrPair 1 2 ∷ RegPair AndPair 3 4 ∷ RegPair XorPair 5 6 ∷ RegClear 7 ∷ [])))
 
 abbrev pub further_calls_text : List ℕ
 further_calls_text =

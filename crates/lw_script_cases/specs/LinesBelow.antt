@@ -59,4 +59,5 @@ updating = in_task_a ++ script (codes "create w smart front 0 0 7 3/create v sma
 -- a task with so many super-bitmap layers, each second one a window
 abbrev pub supers : ℕ → List ℕ
 supers n =
-    in_task_a ++ flat_map (λ i. script (codes "create s") ++ decimal i ++ script (codes " super front 0 0 7 3 8 4/open t") ++ decimal i ++ script (codes " super front 0 0 8 4 8 4 ''/")) (range_with_len 0 n)
+    in_task_a ++ flat_map (λ i. script (codes "create s") ++ decimal i ++ script (codes " super front 0 0 7 3 8 4/open t")
+    ++ decimal i ++ script (codes " super front 0 0 8 4 8 4 ''/")) (range_with_len 0 n)

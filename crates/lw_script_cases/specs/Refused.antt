@@ -27,7 +27,8 @@ bad_bytes =
     at_line 1 (script (codes "layers 2") ++ (13 ∷ []) ++ script (codes "/")) ∷
     at_line 2 (screened ++ (31 ∷ []) ++ script (codes "/")) ∷
     at_line 2 (screened ++ (127 ∷ []) ++ script (codes "/")) ∷
-    at_line 2 (script (codes "#") ++ (0 ∷ []) ++ (1 ∷ []) ++ (255 ∷ []) ++ script (codes "  '/") ++ (254 ∷ []) ++ script (codes "/")) ∷
+    at_line 2 (script (codes "#") ++ (0 ∷ []) ++ (1 ∷ []) ++ (255 ∷ []) ++ script (codes "  '/") ++ (254 ∷ [])
+    ++ script (codes "/")) ∷
     at_line 3 (in_task_a ++ script (codes "end") ++ (13 ∷ []) ++ script (codes "/")) ∷
     at_line 3 (in_task_a ++ script (codes "fill") ++ (9 ∷ []) ++ script (codes "w 0 0 1 1/")) ∷
     at_line 3 (in_task_a ++ script (codes "text w 'a") ++ (9 ∷ []) ++ script (codes "b'/")) ∷

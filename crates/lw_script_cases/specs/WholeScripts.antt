@@ -48,10 +48,12 @@ in_version_2 = of_version_2 in_task_a
 
 -- 64 layers of 64 names, 16 layers with bitmaps of their own, 16 bitmaps, and 16 tasks
 abbrev pub sixty_four_layers : List ℕ
-sixty_four_layers = flat_map (λ i. script (codes "create n") ++ decimal i ++ script (codes " smart front 0 0 7 3/")) (range_with_len 0 64)
+sixty_four_layers =
+    flat_map (λ i. script (codes "create n") ++ decimal i ++ script (codes " smart front 0 0 7 3/")) (range_with_len 0 64)
 
 abbrev pub sixteen_supers : List ℕ
-sixteen_supers = flat_map (λ i. script (codes "create s") ++ decimal i ++ script (codes " super front 0 0 7 3 8 4/")) (range_with_len 0 16)
+sixteen_supers =
+    flat_map (λ i. script (codes "create s") ++ decimal i ++ script (codes " super front 0 0 7 3 8 4/")) (range_with_len 0 16)
 
 abbrev pub sixteen_bitmaps : List ℕ
 sixteen_bitmaps = flat_map (λ i. script (codes "bitmap b") ++ decimal i ++ script (codes " 1 1 1/0000/")) (range_with_len 0 16)
@@ -83,7 +85,8 @@ long_comment = script (codes "#") ++ replicate 600 1 ++ script (codes "/screen 1
 
 abbrev pub all_parts : List ℕ
 all_parts =
-    script (codes "# first fill/screen 16 4 1//glyph 41 183c66667e666600/bitmap dot 8 2 1/ff00/8100/task a/") ++ script (codes "create w smart front 0 0 7 3/lock w/fill w 1 1 2 2/unlock w/end/")
+    script (codes "# first fill/screen 16 4 1//glyph 41 183c66667e666600/bitmap dot 8 2 1/ff00/8100/task a/")
+    ++ script (codes "create w smart front 0 0 7 3/lock w/fill w 1 1 2 2/unlock w/end/")
 
 abbrev pub comment_in_task : List ℕ
 comment_in_task = in_task_a ++ script (codes "# note/")
@@ -218,7 +221,9 @@ abbrev pub order_in_audited : List ℕ
 order_in_audited = in_task_a ++ script (codes "end/order/0")
 
 abbrev pub report : List ℕ
-report = in_task_a ++ (101 ∷ 110 ∷ 100 ∷ 10 ∷ 114 ∷ 101 ∷ 112 ∷ 111 ∷ 114 ∷ 116 ∷ 10 ∷ 97 ∷ 110 ∷ 121 ∷ 32 ∷ 32 ∷ 116 ∷ 104 ∷ 105 ∷ 110 ∷ 103 ∷ 32 ∷ 1 ∷ 10 ∷ []) ++ replicate 600 122
+report = in_task_a
+    ++ (101 ∷ 110 ∷ 100 ∷ 10 ∷ 114 ∷ 101 ∷ 112 ∷ 111 ∷ 114 ∷ 116 ∷ 10 ∷ 97 ∷ 110 ∷ 121 ∷ 32 ∷ 32 ∷ 116 ∷ 104 ∷ 105 ∷ 110 ∷ 103
+    ∷ 32 ∷ 1 ∷ 10 ∷ []) ++ replicate 600 122
 
 abbrev pub report_missing : List ℕ
 report_missing = in_task_a ++ script (codes "end/")

@@ -4,7 +4,8 @@
 ghost use Rattle.std.specs.Prelude.{◌≡◌, []};
 ghost use Rattle.lw_calls.specs.Entries.{only_order};
 ghost use Rattle.lw_machine.specs.Report.{run_report};
-ghost use Rattle.lw_script_cases.specs.AreaScripts.{triangle, triangle_report, square, square_report, empty_plan, empty_report, checkered, checkered_report};
+ghost use Rattle.lw_script_cases.specs.AreaScripts.{triangle, triangle_report, square, square_report, empty_plan, empty_report};
+ghost use Rattle.lw_script_cases.specs.AreaScripts.{checkered, checkered_report};
 
 /// The fills leave the area's pixels.
 pub fn areas_are_painted()

@@ -2,12 +2,18 @@
 #![tactic(auto, unfolding(crate::proofs::Computing::reading_areas))]
 
 ghost use Rattle.std.specs.Prelude.{◌≡◌, ◌++◌, [], None, Some, codes};
-ghost use Rattle.lw_grammar.specs.declared.reason.Reason.TheVariants.{UnknownWord, Misplaced, Form as FormReason, Range, NoName, DoubleName, Group, TooMany};
+ghost use Rattle.lw_grammar.specs.declared.reason.Reason.TheVariants.{UnknownWord, Misplaced, Form as FormReason, Range};
+ghost use Rattle.lw_grammar.specs.declared.reason.Reason.TheVariants.{NoName, DoubleName, Group, TooMany};
 ghost use Rattle.lw_grammar.specs.Script.{SpellsInput};
 ghost use Rattle.lw_script_cases.specs.WholeScripts.{IsSpelled, alone, script, in_version_2};
 ghost use Rattle.lw_script_cases.specs.SpelledPlans.{input_of};
 ghost use Rattle.lw_script_cases.specs.Refused.{AreRefused};
-ghost use Rattle.lw_script_cases.specs.AreaScripts.{triangle_script, triangle, square_script, square, empty_script, empty_plan, pattern_script, checkered, locked_script, locked, updated_script, updated, first_named_script, first_named, all_patterns, thirty_two_points, unknown_areas, misplaced_areas, bad_area_forms, far_areas, unknown_patterns, patterns_again, misgrouped_areas, many_patterns, after_calls, after_names, reason_after};
+ghost use Rattle.lw_script_cases.specs.AreaScripts.{triangle_script, triangle, square_script, square, empty_script, empty_plan};
+ghost use Rattle.lw_script_cases.specs.AreaScripts.{pattern_script, checkered, locked_script, locked, updated_script, updated};
+ghost use Rattle.lw_script_cases.specs.AreaScripts.{first_named_script, first_named, all_patterns, thirty_two_points};
+ghost use Rattle.lw_script_cases.specs.AreaScripts.{unknown_areas, misplaced_areas, bad_area_forms, far_areas};
+ghost use Rattle.lw_script_cases.specs.AreaScripts.{unknown_patterns, patterns_again, misgrouped_areas, many_patterns};
+ghost use Rattle.lw_script_cases.specs.AreaScripts.{after_calls, after_names, reason_after};
 
 /// An area is a group of fills of its own, one for each rectangle of its canonical list; without a pixel it is nothing.
 pub fn areas_are_fills()
@@ -27,7 +33,8 @@ pub fn areas_join_their_groups()
 /// Patterns have 1, 2, 4, 8 or 16 words, and areas up to 32 points.
 pub fn patterns_and_points_are_counted()
     ensures patterns { IsSpelled (alone 0) all_patterns }
-    ensures points { IsSpelled (alone 0) (in_version_2 ++ script (codes "area w") ++ thirty_two_points ++ script (codes "/end/")) }
+    ensures points { IsSpelled (alone 0)
+        (in_version_2 ++ script (codes "area w") ++ thirty_two_points ++ script (codes "/end/")) }
 {}
 
 /// Each reason for which a line of a pattern or an area is bad.

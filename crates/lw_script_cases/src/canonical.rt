@@ -6,10 +6,12 @@ ghost use Rattle.lw_canonical.specs.Canonical.{canonical_text};
 ghost use Rattle.lw_cases.specs.Drawing.{first_fill};
 ghost use Rattle.lw_cases.specs.Versions.{hook_replaced};
 ghost use Rattle.lw_script_cases.specs.WholeScripts.{first_fill_script};
-ghost use Rattle.lw_script_cases.specs.CanonicalTexts.{three_tasks, three_tasks_text, all_asked, all_asked_text, further_calls, further_calls_text};
+ghost use Rattle.lw_script_cases.specs.CanonicalTexts.{three_tasks, three_tasks_text, all_asked, all_asked_text, further_calls};
+ghost use Rattle.lw_script_cases.specs.CanonicalTexts.{further_calls_text};
 ghost use Rattle.lw_script_cases.specs.VersionLines.{hook_replaced_script};
 ghost use Rattle.lw_script_cases.specs.AreaScripts.{triangle, triangle_text};
-ghost use Rattle.lw_script_cases.specs.GzzScripts.{filled, filled_script, boxed, boxed_script, all_lines, all_lines_script, beside_pairs, beside_pairs_text};
+ghost use Rattle.lw_script_cases.specs.GzzScripts.{filled, filled_script, boxed, boxed_script, all_lines, all_lines_script};
+ghost use Rattle.lw_script_cases.specs.GzzScripts.{beside_pairs, beside_pairs_text};
 
 /// The first fill's canonical text is its script.
 pub fn first_fill_is_canonical()

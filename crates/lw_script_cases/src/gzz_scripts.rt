@@ -2,13 +2,18 @@
 #![tactic(auto, unfolding(crate::proofs::Computing::reading_areas))]
 
 ghost use Rattle.std.specs.Prelude.{◌≡◌, ◌++◌, None, Some, codes};
-ghost use Rattle.lw_grammar.specs.declared.reason.Reason.TheVariants.{UnknownWord, Misplaced, Form as FormReason, Range, NoName, DoubleName, Gzz, Group, TooMany};
+ghost use Rattle.lw_grammar.specs.declared.reason.Reason.TheVariants.{UnknownWord, Misplaced, Form as FormReason, Range};
+ghost use Rattle.lw_grammar.specs.declared.reason.Reason.TheVariants.{NoName, DoubleName, Gzz, Group, TooMany};
 ghost use Rattle.lw_grammar.specs.Script.{SpellsInput};
 ghost use Rattle.lw_script_cases.specs.WholeScripts.{alone, with_order, with_report};
 ghost use Rattle.lw_script_cases.specs.SpelledPlans.{input_of};
 ghost use Rattle.lw_script_cases.specs.Refused.{AreRefused};
 ghost use Rattle.lw_script_cases.specs.LinesBelow.{reason_below};
-ghost use Rattle.lw_script_cases.specs.GzzScripts.{filled_script, filled, boxed_script, boxed, all_lines_script, all_lines, moved_outer, closed_unknown, unknown_gzz, misplaced_gzz, bad_gopen_forms, bad_gzz_forms, far_boxes, far_on_paired, unknown_pairs, names_again, parting, misgrouped_gzz, free_lines, AreAllowed, paired, other_names, calls_made, held_after, layers_named, reason_at};
+ghost use Rattle.lw_script_cases.specs.GzzScripts.{filled_script, filled, boxed_script, boxed, all_lines_script, all_lines};
+ghost use Rattle.lw_script_cases.specs.GzzScripts.{moved_outer, closed_unknown, unknown_gzz, misplaced_gzz, bad_gopen_forms};
+ghost use Rattle.lw_script_cases.specs.GzzScripts.{bad_gzz_forms, far_boxes, far_on_paired, unknown_pairs, names_again};
+ghost use Rattle.lw_script_cases.specs.GzzScripts.{parting, misgrouped_gzz, free_lines, AreAllowed, paired, other_names};
+ghost use Rattle.lw_script_cases.specs.GzzScripts.{calls_made, held_after, layers_named, reason_at};
 
 /// Each line is a group of its own, and an opening makes a pair.
 pub fn windows_of_two_are_groups()

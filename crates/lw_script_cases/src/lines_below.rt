@@ -4,17 +4,24 @@
 ghost use Rattle.std.specs.Prelude.{◌≡◌, ◌++◌, None, Some, codes};
 ghost use Rattle.lw_grammar.specs.declared.reason.Reason.TheVariants.{UnknownWord, Group, TooMany, NoHook, HookUsed};
 ghost use Rattle.lw_script_cases.specs.WholeScripts.{alone, with_order, script, of_version_2};
-ghost use Rattle.lw_script_cases.specs.LinesBelow.{reason_below, created_with_hook, opened_with_hook, hook_set, hook_of_another_task, greatest_hook, updating, supers};
+ghost use Rattle.lw_script_cases.specs.LinesBelow.{reason_below, created_with_hook, opened_with_hook, hook_set};
+ghost use Rattle.lw_script_cases.specs.LinesBelow.{hook_of_another_task, greatest_hook, updating, supers};
 
 /// A hook is named once, by a layer or a window, in whichever task.
 pub fn hooks_are_named_once()
-    ensures created_again { reason_below (alone 6) created_with_hook (codes "create v smart front 0 0 3 3 hook 2") ≡ Some HookUsed }
-    ensures created_simple { reason_below (alone 6) created_with_hook (codes "create v simple behind 0 0 3 3 backdrop hook 2") ≡ Some HookUsed }
-    ensures then_opened { reason_below (alone 6) created_with_hook (codes "open v smart front 0 0 9 14 hook 2 ask r ''") ≡ Some HookUsed }
-    ensures opened_again { reason_below (alone 6) opened_with_hook (codes "open v simple front 0 0 9 14 borderless hook 2 ''") ≡ Some HookUsed }
+    ensures created_again { reason_below (alone 6) created_with_hook (codes "create v smart front 0 0 3 3 hook 2")
+        ≡ Some HookUsed }
+    ensures created_simple { reason_below (alone 6) created_with_hook (codes "create v simple behind 0 0 3 3 backdrop hook 2")
+        ≡ Some HookUsed }
+    ensures then_opened { reason_below (alone 6) created_with_hook (codes "open v smart front 0 0 9 14 hook 2 ask r ''")
+        ≡ Some HookUsed }
+    ensures opened_again { reason_below (alone 6) opened_with_hook (codes "open v simple front 0 0 9 14 borderless hook 2 ''")
+        ≡ Some HookUsed }
     ensures then_created { reason_below (alone 3) opened_with_hook (codes "create v smart front 0 0 3 3 hook 2") ≡ Some HookUsed }
-    ensures in_another_task { reason_below (with_order 3) hook_of_another_task (codes "create v smart front 0 0 3 3 hook 2") ≡ Some HookUsed }
-    ensures greatest { reason_below (alone 4294967296) greatest_hook (codes "create v smart front 0 0 3 3 hook 4294967295") ≡ Some HookUsed }
+    ensures in_another_task { reason_below (with_order 3) hook_of_another_task (codes "create v smart front 0 0 3 3 hook 2")
+        ≡ Some HookUsed }
+    ensures greatest { reason_below (alone 4294967296) greatest_hook (codes "create v smart front 0 0 3 3 hook 4294967295")
+        ≡ Some HookUsed }
     ensures same_name { reason_below (alone 3) created_with_hook (codes "create w smart front 0 0 7 3 hook 2") ≡ Some HookUsed }
     ensures another { reason_below (alone 6) created_with_hook (codes "create v smart front 0 0 3 3 hook 1") ≡ None }
     ensures not_handed_in { reason_below (alone 2) created_with_hook (codes "create v smart front 0 0 3 3 hook 2") ≡ Some NoHook }
@@ -59,7 +66,8 @@ pub fn updates_have_their_calls()
 
 /// A script asks for at most 16 super-bitmap layers, created or opened.
 pub fn supers_are_counted()
-    ensures sixteenth { reason_below (alone 0) (supers 7 ++ script (codes "create a super front 0 0 7 3 8 4/")) (codes "open b super front 0 0 8 4 8 4 ''") ≡ None }
+    ensures sixteenth { reason_below (alone 0) (supers 7 ++ script (codes "create a super front 0 0 7 3 8 4/"))
+        (codes "open b super front 0 0 8 4 8 4 ''") ≡ None }
     ensures created { reason_below (alone 0) (supers 8) (codes "create a super front 0 0 7 3 8 4") ≡ Some TooMany }
     ensures opened { reason_below (alone 0) (supers 8) (codes "open a super front 0 0 8 4 8 4 ''") ≡ Some TooMany }
     ensures again { reason_below (alone 0) (supers 8) (codes "create s0 super front 0 0 7 3 8 4") ≡ Some TooMany }

@@ -1,7 +1,11 @@
 //! Refused scripts in tables, by their first reasons.
 
-ghost use Rattle.lw_grammar.specs.declared.reason.Reason.TheVariants.{BadByte, Spacing, Quote, UnknownWord, Misplaced, Form as FormReason, Range, NoName, DoubleName, Group, NoHook, Padding, Missing};
-ghost use Rattle.lw_script_cases.specs.Refused.{AreRefused, bad_bytes, bad_spacing, bad_quotes, unknown_words, misplaced, bad_forms, out_of_range, no_names, double_names, bad_groups, no_hooks, bad_padding, unfinished};
+ghost use Rattle.lw_grammar.specs.declared.reason.Reason.TheVariants.{BadByte, Spacing, Quote, UnknownWord, Misplaced};
+ghost use Rattle.lw_grammar.specs.declared.reason.Reason.TheVariants.{Form as FormReason, Range, NoName, DoubleName, Group};
+ghost use Rattle.lw_grammar.specs.declared.reason.Reason.TheVariants.{NoHook, Padding, Missing};
+ghost use Rattle.lw_script_cases.specs.Refused.{AreRefused, bad_bytes, bad_spacing, bad_quotes, unknown_words, misplaced};
+ghost use Rattle.lw_script_cases.specs.Refused.{bad_forms, out_of_range, no_names, double_names, bad_groups, no_hooks};
+ghost use Rattle.lw_script_cases.specs.Refused.{bad_padding, unfinished};
 
 /// Refused for a byte that stands in no line.
 pub fn bytes_are_printable()

@@ -1,9 +1,48 @@
 //! First bad lines of whole scripts with their first reasons, and scripts without one.
 
-ghost use Rattle.lw_grammar.specs.declared.reason.Reason.TheVariants.{LineTooLong, BadByte, Spacing, Quote, UnknownWord, Misplaced, Form as FormReason, Range, NoName, DoubleName, Group, TooMany, NoHook, Padding, Missing};
+ghost use Rattle.lw_grammar.specs.declared.reason.Reason.TheVariants.{LineTooLong, BadByte, Spacing, Quote, UnknownWord};
+ghost use Rattle.lw_grammar.specs.declared.reason.Reason.TheVariants.{Misplaced, Form as FormReason, Range, NoName, DoubleName};
+ghost use Rattle.lw_grammar.specs.declared.reason.Reason.TheVariants.{Group, TooMany, NoHook, Padding, Missing};
 ghost use Rattle.lw_grammar.specs.Lines.{lines};
 ghost use Rattle.lw_grammar.specs.Script.{IsFirstBadIn, SpellsInput};
-ghost use Rattle.lw_script_cases.specs.WholeScripts.{IsSpelled, alone, with_order, with_report, first_fill_script, first_fill_input, all_parts, hook_0_of_none, simple_layer, comment_in_task, two_spaces, word_after_end, task_missing, line_feed, empty, carriage_return, one_space, long_comment, line_of_512, line_of_513, second_task, second_task_apart, task_in_task, text_with_spaces, text_then_space, text_then_word, space_before_text, spaces_before_quote, quote_in_word, quote_alone, space_at_end, text_as_verb, empty_text, text_as_row, row, row_too_short, row_of_32, padding_bit, rows_apart, rows_missing, row_in_capitals, bitmap_again, bitmap_of_9_planes, bitmap_without_columns, glyph_in_capitals, glyph_of_7f, glyph_again, glyph_too_short, order_in_plain, order_before_task, order_in_task, order_again, order_missing, numbers_64, numbers_65, number_16, number_below_0, no_numbers, order_in_audited, report, report_missing, report_in_task, unlock_between, endrefresh_between, form_before_range, number_too_large, number_of_101_digits, maximum_below_minimum, leading_zero, minus_zero, negative_number, hook_above_32_bits, hook_below_0, hook_2_of_2, hook_1_of_2, hook_of_super, super_backdrop, super_of_2049, hook_before_backdrop, open_with_all, open_out_of_order, set_out_of_order, set_with_one_twice, super_borderless, super_with_set, open_of_no_columns, bitmap_unknown, minterm_c1, minterm_in_capitals, put_of_a_bitmap, put_of_no_columns, lock_of_nothing, lock_of_a_fill, lock_of_another, lock_in_lock, hold_in_lock, end_in_lock, end_with_a_word, unlock_of_another, unlock_alone, which_in_lock, region_in_lock, blit_in_lock, blit_of_two_in_lock, refresh_in_lock, endrefresh_in_lock, endrefresh_alone, endrefresh_fully, update_of_a_fill, update_of_nothing, update_in_update, update_without_end, create_in_lock, hold_of_a_create, hold_of_nothing, fill_in_hold, which_in_hold, move_in_hold, release_alone, creations, arrangements, arrangements_in_hold, look_and_scroll, scroll_in_lock, raster_changes, drawing, drawing_in_lock, layer_named_front, name_of_16, name_of_17, name_with_underscore, name_from_a_digit, screen_of_1025, screen_again, task_before_screen, end_before_task, end_missing, two_tasks, task_again, verb_in_capitals, mode_8, mask_256, mask_255, register_8, regions_joined, names_64, names_65, names_65_by_blit, unlock_before_65, supers_16, supers_17, bitmaps_17, tasks_17, screened, plus_sign, zeros_before_7, maximum_of_5_below_9, maximum_of_40000, zero_apart, text_before_a_word, unknown_verb, glyph_in_task, blit_by_c1, put_without_bitmap, unlock_at_once, hook_6, lock_and_unlock};
+ghost use Rattle.lw_script_cases.specs.WholeScripts.{IsSpelled, alone, with_order, with_report, first_fill_script};
+ghost use Rattle.lw_script_cases.specs.WholeScripts.{first_fill_input, all_parts, hook_0_of_none, simple_layer};
+ghost use Rattle.lw_script_cases.specs.WholeScripts.{comment_in_task, two_spaces, word_after_end, task_missing, line_feed};
+ghost use Rattle.lw_script_cases.specs.WholeScripts.{empty, carriage_return, one_space, long_comment, line_of_512, line_of_513};
+ghost use Rattle.lw_script_cases.specs.WholeScripts.{second_task, second_task_apart, task_in_task, text_with_spaces};
+ghost use Rattle.lw_script_cases.specs.WholeScripts.{text_then_space, text_then_word, space_before_text, spaces_before_quote};
+ghost use Rattle.lw_script_cases.specs.WholeScripts.{quote_in_word, quote_alone, space_at_end, text_as_verb, empty_text};
+ghost use Rattle.lw_script_cases.specs.WholeScripts.{text_as_row, row, row_too_short, row_of_32, padding_bit, rows_apart};
+ghost use Rattle.lw_script_cases.specs.WholeScripts.{rows_missing, row_in_capitals, bitmap_again, bitmap_of_9_planes};
+ghost use Rattle.lw_script_cases.specs.WholeScripts.{bitmap_without_columns, glyph_in_capitals, glyph_of_7f, glyph_again};
+ghost use Rattle.lw_script_cases.specs.WholeScripts.{glyph_too_short, order_in_plain, order_before_task, order_in_task};
+ghost use Rattle.lw_script_cases.specs.WholeScripts.{order_again, order_missing, numbers_64, numbers_65, number_16};
+ghost use Rattle.lw_script_cases.specs.WholeScripts.{number_below_0, no_numbers, order_in_audited, report, report_missing};
+ghost use Rattle.lw_script_cases.specs.WholeScripts.{report_in_task, unlock_between, endrefresh_between, form_before_range};
+ghost use Rattle.lw_script_cases.specs.WholeScripts.{number_too_large, number_of_101_digits, maximum_below_minimum};
+ghost use Rattle.lw_script_cases.specs.WholeScripts.{leading_zero, minus_zero, negative_number, hook_above_32_bits};
+ghost use Rattle.lw_script_cases.specs.WholeScripts.{hook_below_0, hook_2_of_2, hook_1_of_2, hook_of_super, super_backdrop};
+ghost use Rattle.lw_script_cases.specs.WholeScripts.{super_of_2049, hook_before_backdrop, open_with_all, open_out_of_order};
+ghost use Rattle.lw_script_cases.specs.WholeScripts.{set_out_of_order, set_with_one_twice, super_borderless, super_with_set};
+ghost use Rattle.lw_script_cases.specs.WholeScripts.{open_of_no_columns, bitmap_unknown, minterm_c1, minterm_in_capitals};
+ghost use Rattle.lw_script_cases.specs.WholeScripts.{put_of_a_bitmap, put_of_no_columns, lock_of_nothing, lock_of_a_fill};
+ghost use Rattle.lw_script_cases.specs.WholeScripts.{lock_of_another, lock_in_lock, hold_in_lock, end_in_lock, end_with_a_word};
+ghost use Rattle.lw_script_cases.specs.WholeScripts.{unlock_of_another, unlock_alone, which_in_lock, region_in_lock};
+ghost use Rattle.lw_script_cases.specs.WholeScripts.{blit_in_lock, blit_of_two_in_lock, refresh_in_lock, endrefresh_in_lock};
+ghost use Rattle.lw_script_cases.specs.WholeScripts.{endrefresh_alone, endrefresh_fully, update_of_a_fill, update_of_nothing};
+ghost use Rattle.lw_script_cases.specs.WholeScripts.{update_in_update, update_without_end, create_in_lock, hold_of_a_create};
+ghost use Rattle.lw_script_cases.specs.WholeScripts.{hold_of_nothing, fill_in_hold, which_in_hold, move_in_hold, release_alone};
+ghost use Rattle.lw_script_cases.specs.WholeScripts.{creations, arrangements, arrangements_in_hold, look_and_scroll};
+ghost use Rattle.lw_script_cases.specs.WholeScripts.{scroll_in_lock, raster_changes, drawing, drawing_in_lock};
+ghost use Rattle.lw_script_cases.specs.WholeScripts.{layer_named_front, name_of_16, name_of_17, name_with_underscore};
+ghost use Rattle.lw_script_cases.specs.WholeScripts.{name_from_a_digit, screen_of_1025, screen_again, task_before_screen};
+ghost use Rattle.lw_script_cases.specs.WholeScripts.{end_before_task, end_missing, two_tasks, task_again, verb_in_capitals};
+ghost use Rattle.lw_script_cases.specs.WholeScripts.{mode_8, mask_256, mask_255, register_8, regions_joined, names_64};
+ghost use Rattle.lw_script_cases.specs.WholeScripts.{names_65, names_65_by_blit, unlock_before_65, supers_16, supers_17};
+ghost use Rattle.lw_script_cases.specs.WholeScripts.{bitmaps_17, tasks_17, screened, plus_sign, zeros_before_7};
+ghost use Rattle.lw_script_cases.specs.WholeScripts.{maximum_of_5_below_9, maximum_of_40000, zero_apart, text_before_a_word};
+ghost use Rattle.lw_script_cases.specs.WholeScripts.{unknown_verb, glyph_in_task, blit_by_c1, put_without_bitmap};
+ghost use Rattle.lw_script_cases.specs.WholeScripts.{unlock_at_once, hook_6, lock_and_unlock};
 ghost use Rattle.lw_script_cases.specs.CanonicalTexts.{three_tasks_text, three_tasks_input};
 
 /// The script of the first fill spells its plan.

@@ -3,7 +3,8 @@
 ghost use Rattle.lw_grammar.specs.Script.{SpellsInput};
 ghost use Rattle.lw_script_cases.specs.WholeScripts.{alone, with_order};
 ghost use Rattle.lw_script_cases.specs.CanonicalTexts.{further_calls, further_calls_text};
-ghost use Rattle.lw_script_cases.specs.SpelledPlans.{input_of, second_layer_script, second_layer_plan, windows_script, windows_plan, ordered_script, ordered_input};
+ghost use Rattle.lw_script_cases.specs.SpelledPlans.{input_of, second_layer_script, second_layer_plan, windows_script};
+ghost use Rattle.lw_script_cases.specs.SpelledPlans.{windows_plan, ordered_script, ordered_input};
 
 /// The text of the further calls spells their plan.
 pub fn further_calls_are_spelled()

@@ -6,7 +6,9 @@ ghost use Rattle.lw_grammar.specs.Script.{IsFirstBadIn, SpellsInput};
 ghost use Rattle.lw_cases.specs.Versions.{wide_screen, hook_replaced};
 ghost use Rattle.lw_script_cases.specs.WholeScripts.{alone};
 ghost use Rattle.lw_script_cases.specs.SpelledPlans.{input_of};
-ghost use Rattle.lw_script_cases.specs.VersionLines.{without_version, wide_screen_script, wide_screen_below_comments, hook_replaced_script, hook_replaced_in_version_1, version_behind_screen, own_hook_again, hooks_in_hold_script, hooks_in_hold_plan};
+ghost use Rattle.lw_script_cases.specs.VersionLines.{without_version, wide_screen_script, wide_screen_below_comments};
+ghost use Rattle.lw_script_cases.specs.VersionLines.{hook_replaced_script, hook_replaced_in_version_1, version_behind_screen};
+ghost use Rattle.lw_script_cases.specs.VersionLines.{own_hook_again, hooks_in_hold_script, hooks_in_hold_plan};
 
 /// A first line `layers 2` lets a screen be wider and hooks be replaced, and without it neither is.
 pub fn first_lines_tell_the_version()

@@ -17,8 +17,8 @@ pub fn refusal_of(
     }
 }
 
-// What stands after a script of three lines in an input with an order or a report, and the line and the reason for which the whole is
-// refused.
+// What stands after a script of three lines in an input with an order or a report, and the line and the reason for which the
+// whole is refused.
 static BEHIND: [(Form, u32, Reason, &str); 15] = [
     (Form::Ordered, 4, Reason::Misplaced, "report\n"),
     (Form::Ordered, 4, Reason::Form, "order 0\n"),

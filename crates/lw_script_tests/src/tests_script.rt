@@ -17,8 +17,8 @@ pub fn read_short(
     Err(ScriptStop::Memory)
 }
 
-// A script with skipped lines in each part, glyphs, bitmaps, two tasks with groups of each kind, and an order that names a task that
-// there isn't.
+// A script with skipped lines in each part, glyphs, bitmaps, two tasks with groups of each kind, and an order that names a task
+// that there isn't.
 const WHOLE: &str = "# a script
 screen 640 256 2
 glyph 41 183c66667e666601

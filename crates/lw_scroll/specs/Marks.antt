@@ -44,14 +44,15 @@ LeadToHurt kept former source dx dy made =
 
 -- they have what is damaged of the pixels that something is brought to, and of the others what was
 abbrev pub AreDue : List Rectangle → List Rectangle → List Rectangle → List Rectangle → Type 0
-AreDue former reached hurt made = (x y : ℤ) → covers made x y ≡ (if covers reached x y then covers hurt x y else covers former x y)
+AreDue former reached hurt made =
+    (x y : ℤ) → covers made x y ≡ (if covers reached x y then covers hurt x y else covers former x y)
 
 -- the pixel is damaged
 abbrev pub is_damaged : LiveView → ℤ → ℤ → Bool
 is_damaged c x y = holds_at (λ i j. at false c.layer.damage i j) x y
 
--- The pixel is damaged after a scroll: a drawable one of the target where the one that it takes was damaged or isn't kept, and each
--- other one where it was damaged itself.
+-- The pixel is damaged after a scroll: a drawable one of the target where the one that it takes was damaged or isn't kept, and
+-- each other one where it was damaged itself.
 abbrev pub moved_mark : LiveView → Rectangle → ℤ → ℤ → ℤ → ℤ → Bool
 moved_mark c target dx dy x y =
     if holds_at (λ i j. draws c i j) x y && has_pixel target x y

@@ -6,7 +6,8 @@ ghost use Rattle.lw_region.specs.Bands.{covers};
 ghost use Rattle.lw_calls.specs.Kinds.{is_super};
 ghost use Rattle.lw_damage.specs.Damaged.{may_lie};
 ghost use Rattle.lw_layer.specs.Pieces.{IsDamageOf};
-ghost use Rattle.lw_scroll.specs.Marks.{AreKept, AreClipped, IsWhole, AreDrawable, LeadToHurt, AreDue, IsDamageAfter, IsMovedDamage, AreShifted};
+ghost use Rattle.lw_scroll.specs.Marks.{AreKept, AreClipped, IsWhole, AreDrawable, LeadToHurt, AreDue, IsDamageAfter};
+ghost use Rattle.lw_scroll.specs.Marks.{IsMovedDamage, AreShifted};
 
 use crate::block::{block_of, brought_block, rect_of};
 use lw_calls::Kind;

@@ -30,7 +30,8 @@ pub fn scroll_raster(
     requires right { dx ≤ℤ pos 65535 }
     requires up { negsuc 65534 ≤ℤ dy }
     requires down { dy ≤ℤ pos 65535 }
-    ensures done { OnOk result (layer.new ≡ with_layer (λ l. with_raster_scrolled (λ i j. shows layer.old i j) dx dy rect.now l) layer.old) }
+    ensures done { OnOk result (layer.new
+        ≡ with_layer (λ l. with_raster_scrolled (λ i j. shows layer.old i j) dx dy rect.now l) layer.old) }
     ensures err { OnErr result (layer.new ≡ layer.old) }
 {
     let damage = damage_after(alloc, layer, rect, dx, dy)?;

@@ -50,7 +50,8 @@ impl Info {
     pub fn new(alloc: Global, sizes: &Sizes) -> Result<Info, AllocError>
         requires { IsWithinLimits sizes.now }
         ensures { IfOk result
-            (λ info. info ≡ record { sizes = sizes.now; front_to_back = []; bounds = replicate sizes.now.slots None; active = None }) }
+            (λ info. info
+            ≡ record { sizes = sizes.now; front_to_back = []; bounds = replicate sizes.now.slots None; active = None }) }
     {
         let mut bounds = Vec::with_capacity(alloc, sizes.slots as usize)?;
         for _slot in 0..sizes.slots {

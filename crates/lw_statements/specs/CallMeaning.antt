@@ -3,7 +3,8 @@ use Rattle.std.specs.Prelude.{◌≡◌, ℕ, Bool, true, false, List}
 use Rattle.lw_grammar.specs.Statements.{Act as Meaning, PutAct}
 use Rattle.lw_grammar.specs.Told.{place_among}
 use Rattle.lw_statements.specs.declared.statement.Act.{Act}
-use Rattle.lw_statements.specs.declared.statement.Act.TheVariants.{RegRect, RegPair, RegClear, Create, InFront, Box, Which, Fill, ScrollRaster, Blit, EndRefresh}
+use Rattle.lw_statements.specs.declared.statement.Act.TheVariants.{RegRect, RegPair, RegClear, Create, InFront, Box, Which}
+use Rattle.lw_statements.specs.declared.statement.Act.TheVariants.{Fill, ScrollRaster, Blit, EndRefresh}
 
 -- the bitmap that the act names, if it names one, has this place among these names
 abbrev pub IsBitmapAt : List (List ℕ) → ℕ → Meaning → Type 0

@@ -6,5 +6,6 @@ use Rattle.lw_grammar.specs.Statements.{Line, four_numbers, place_of, inner_kind
 
 abbrev pub opened_with : List ℕ → List ℕ → List ℕ → List ℕ → List Token → Option Line
 opened_with g i k p ts =
-    option_and_then (λ n. option_and_then (λ place. option_and_then (opened_gzz g i place n.0 n.1) (inner_kind_of k)) (place_of p))
+    option_and_then
+    (λ n. option_and_then (λ place. option_and_then (opened_gzz g i place n.0 n.1) (inner_kind_of k)) (place_of p))
     (four_numbers ts)

@@ -1,5 +1,6 @@
 -- What a section of the reader means.
-use Rattle.lw_grammar.specs.Told.{Section as Meaning, ScreenIsDue, AssetsAreDue, CallsAreDue, TasksAreDue, NumbersAreDue, NothingIsDue}
+use Rattle.lw_grammar.specs.Told.{Section as Meaning, ScreenIsDue, AssetsAreDue, CallsAreDue, TasksAreDue, NumbersAreDue}
+use Rattle.lw_grammar.specs.Told.{NothingIsDue}
 use Rattle.lw_statements.specs.declared.section.Section.{Section}
 use Rattle.lw_statements.specs.declared.section.Section.TheVariants.{Screen, Assets, Calls, Tasks, Numbers, Nothing}
 

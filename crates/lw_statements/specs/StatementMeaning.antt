@@ -2,19 +2,32 @@
 use Rattle.std.specs.Prelude.{List, [], ◌∷◌, ℕ, map, option_map}
 use Rattle.lw_area.specs.declared.point.Point.{Point}
 use Rattle.lw_calls.specs.declared.area.Area.{Area}
-use Rattle.lw_grammar.specs.Statements.{NewLayer as NewLayerMeaning, Act as ActMeaning, BareAct, NumberAct, PairAct, TextAct, RegRectAct, RegPairAct, RegClearAct, CreateAct, OpenAct, InFrontAct, BoxAct, WhichAct, FillAct, ScrollRasterAct, PutAct, BlitAct, EndRefreshAct, Statement as Meaning, LayersLine, ScreenLine, GlyphLine, BitmapLine, RowLine, PatternLine, TaskLine, EndLine, OrderLine, NumbersLine, ReportLine, CallLine, LockLine, UnlockLine, HoldLine, ReleaseLine, GzzAct as GzzMeaning, OpenGzz, BoxGzz, FrontGzz, BehindGzz, InFrontGzz, CloseGzz, Line as LineMeaning, StatementLine, AreaLine, GzzLine, Four, four, bounds, point}
+use Rattle.lw_grammar.specs.Statements.{NewLayer as NewLayerMeaning, Act as ActMeaning, BareAct, NumberAct, PairAct, TextAct}
+use Rattle.lw_grammar.specs.Statements.{RegRectAct, RegPairAct, RegClearAct, CreateAct, OpenAct, InFrontAct, BoxAct, WhichAct}
+use Rattle.lw_grammar.specs.Statements.{FillAct, ScrollRasterAct, PutAct, BlitAct, EndRefreshAct, Statement as Meaning}
+use Rattle.lw_grammar.specs.Statements.{LayersLine, ScreenLine, GlyphLine, BitmapLine, RowLine, PatternLine, TaskLine, EndLine}
+use Rattle.lw_grammar.specs.Statements.{OrderLine, NumbersLine, ReportLine, CallLine, LockLine, UnlockLine, HoldLine}
+use Rattle.lw_grammar.specs.Statements.{ReleaseLine, GzzAct as GzzMeaning, OpenGzz, BoxGzz, FrontGzz, BehindGzz, InFrontGzz}
+use Rattle.lw_grammar.specs.Statements.{CloseGzz, Line as LineMeaning, StatementLine, AreaLine, GzzLine, Four, four, bounds}
+use Rattle.lw_grammar.specs.Statements.{point}
 use Rattle.lw_statements.specs.declared.statement.Corners.{Corners}
 use Rattle.lw_statements.specs.declared.statement.NewLayer.{NewLayer}
 use Rattle.lw_statements.specs.declared.statement.AskedArea.{AskedArea}
 use Rattle.lw_statements.specs.declared.statement.Act.{Act}
-use Rattle.lw_statements.specs.declared.statement.Act.TheVariants.{RegRect, RegPair, RegClear, Create, Open, InFront, Box, Which, Bare, Number, Pair, Text, Fill, ScrollRaster, Put, Blit, EndRefresh}
+use Rattle.lw_statements.specs.declared.statement.Act.TheVariants.{RegRect, RegPair, RegClear, Create, Open, InFront, Box}
+use Rattle.lw_statements.specs.declared.statement.Act.TheVariants.{Which, Bare, Number, Pair, Text, Fill, ScrollRaster, Put}
+use Rattle.lw_statements.specs.declared.statement.Act.TheVariants.{Blit, EndRefresh}
 use Rattle.lw_statements.specs.declared.statement.Layers.{Layers}
 use Rattle.lw_statements.specs.declared.statement.Layers.TheVariants.{Nothing, One, Two}
 use Rattle.lw_statements.specs.declared.statement.Statement.{Statement}
-use Rattle.lw_statements.specs.declared.statement.Statement.TheVariants.{Layers as LayersOf, Screen, Glyph, Bitmap, Row, Pattern, Task, End, Order, Numbers, Report, Call, Lock, Unlock, Hold, Release}
+use Rattle.lw_statements.specs.declared.statement.Statement.TheVariants.{Layers as LayersOf, Screen, Glyph, Bitmap, Row}
+use Rattle.lw_statements.specs.declared.statement.Statement.TheVariants.{Pattern, Task, End, Order, Numbers, Report, Call, Lock}
+use Rattle.lw_statements.specs.declared.statement.Statement.TheVariants.{Unlock, Hold, Release}
 use Rattle.lw_statements.specs.declared.statement.AskedPoint.{AskedPoint}
 use Rattle.lw_statements.specs.declared.statement.GzzAct.{GzzAct}
-use Rattle.lw_statements.specs.declared.statement.GzzAct.TheVariants.{Open as OpenOf, Box as BoxOf, Front as FrontOf, Behind as BehindOf, InFront as InFrontOf, Close as CloseOf}
+use Rattle.lw_statements.specs.declared.statement.GzzAct.TheVariants.{Open as OpenOf, Box as BoxOf, Front as FrontOf}
+use Rattle.lw_statements.specs.declared.statement.GzzAct.TheVariants.{Behind as BehindOf, InFront as InFrontOf}
+use Rattle.lw_statements.specs.declared.statement.GzzAct.TheVariants.{Close as CloseOf}
 use Rattle.lw_statements.specs.declared.statement.Line.{Line}
 use Rattle.lw_statements.specs.declared.statement.Line.TheVariants.{Statement as StatementOf, Area as AreaOf, Gzz as GzzOf}
 use Rattle.lw_words.specs.Digits.{decoded}

@@ -2,7 +2,8 @@
 ghost use Rattle.std.specs.Prelude.{◌≡◌, ℕ, List, is_none, option_map};
 ghost use Rattle.lw_grammar.specs.Statements.{CallLine};
 ghost use Rattle.lw_grammar.specs.Told.{makes_super, hook_on};
-ghost use Rattle.lw_grammar.specs.Script.{is_on_all, is_arranging, is_activating, is_hooking, is_beginning, is_ending, are_all, is_on_one, group_allows, allows_area, is_lock_on, is_hold, fits_group};
+ghost use Rattle.lw_grammar.specs.Script.{is_on_all, is_arranging, is_activating, is_hooking, is_beginning, is_ending, are_all};
+ghost use Rattle.lw_grammar.specs.Script.{is_on_one, group_allows, allows_area, is_lock_on, is_hold, fits_group};
 ghost use Rattle.lw_statements.specs.StatementMeaning.{act_meaning, layers_meaning, statement_meaning};
 ghost use Rattle.lw_statements.specs.GroupMeaning.{group_meaning};
 

@@ -1,9 +1,11 @@
 //! The calls that acts are.
 ghost use Rattle.std.specs.Prelude.{◌≡◌, ℕ, List, [], ◌∷◌, pos, ◌+ℤ◌, ◌-ℤ◌, IsTrue, IfOk, option_map, unsigned_abs};
 ghost use Rattle.lw_calls.specs.Limits.{axis_fits, rect_fits, coordinates_fit};
-ghost use Rattle.lw_grammar.specs.Statements.{is_hook_number, is_own_size, is_new_layer_in_range, place_and_size_fit, is_area_in_range, greatest_number, is_act_in_range, bounds};
+ghost use Rattle.lw_grammar.specs.Statements.{is_hook_number, is_own_size, is_new_layer_in_range, place_and_size_fit};
+ghost use Rattle.lw_grammar.specs.Statements.{is_area_in_range, greatest_number, is_act_in_range, bounds};
 ghost use Rattle.lw_region.specs.Rectangle.{within};
-ghost use Rattle.lw_grammar.specs.Told.{make_of, created_make, opened_make, bare_call, number_call, pair_call, text_call, spelled_call};
+ghost use Rattle.lw_grammar.specs.Told.{make_of, created_make, opened_make, bare_call, number_call, pair_call, text_call};
+ghost use Rattle.lw_grammar.specs.Told.{spelled_call};
 ghost use Rattle.lw_statements.specs.StatementMeaning.{corners_meaning, new_layer_meaning, area_meaning, act_meaning};
 ghost use Rattle.lw_statements.specs.CallMeaning.{IsBitmapAt, is_apart, is_single_on_layers};
 

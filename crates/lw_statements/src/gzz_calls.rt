@@ -1,6 +1,7 @@
 //! The statements that stand for what is done with a window of two layers.
 ghost use Rattle.std.specs.Prelude.{◌≡◌, ℕ, true, false, [], ◌∷◌, ◌++◌, map, None, IsTrue, IfOk};
-ghost use Rattle.lw_grammar.specs.Statements.{BareAct, OpenAct, InFrontAct, BoxAct, CallLine, HoldLine, ReleaseLine, new_without_bitmap, is_gzz_box, is_gzz_in_range};
+ghost use Rattle.lw_grammar.specs.Statements.{BareAct, OpenAct, InFrontAct, BoxAct, CallLine, HoldLine, ReleaseLine};
+ghost use Rattle.lw_grammar.specs.Statements.{new_without_bitmap, is_gzz_box, is_gzz_in_range};
 ghost use Rattle.lw_grammar.specs.Told.{inner_box, gzz_calls};
 ghost use Rattle.lw_statements.specs.StatementMeaning.{corners_meaning, statement_meaning, gzz_meaning};
 

@@ -1,5 +1,7 @@
 ghost use Rattle.std.specs.Prelude.{◌≡◌, ◌≤◌, IfSome, map, option_map, [], ◌∷◌};
-ghost use Rattle.lw_grammar.specs.Statements.{kind_of, place_of, flag as flag_meant, hook_option, message_class_of, classes_from, ask_option, create_without_bitmap, create_super, titled_line, open_without_bitmap, open_super, new_layer_line};
+ghost use Rattle.lw_grammar.specs.Statements.{kind_of, place_of, flag as flag_meant, hook_option, message_class_of};
+ghost use Rattle.lw_grammar.specs.Statements.{classes_from, ask_option, create_without_bitmap, create_super, titled_line};
+ghost use Rattle.lw_grammar.specs.Statements.{open_without_bitmap, open_super, new_layer_line};
 ghost use Rattle.lw_grammar.specs.Tokens.{NumberToken};
 ghost use Rattle.lw_words.specs.TokenMeaning.{token_meaning};
 ghost use Rattle.lw_statements.specs.StatementMeaning.{statement_meaning, corners_meaning, new_layer_meaning};

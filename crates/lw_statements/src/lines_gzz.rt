@@ -1,6 +1,7 @@
 //! The lines of what is done with windows of two layers.
 ghost use Rattle.std.specs.Prelude.{◌≡◌, map, option_map};
-ghost use Rattle.lw_grammar.specs.Statements.{inner_kind_of, titled_gzz, opened_gzz, gopen_line, gbox_line, gzz_alone, ginfront_line, gzz_line};
+ghost use Rattle.lw_grammar.specs.Statements.{inner_kind_of, titled_gzz, opened_gzz, gopen_line, gbox_line, gzz_alone};
+ghost use Rattle.lw_grammar.specs.Statements.{ginfront_line, gzz_line};
 ghost use Rattle.lw_words.specs.TokenMeaning.{token_meaning};
 ghost use Rattle.lw_statements.specs.StatementMeaning.{corners_meaning, gzz_meaning, line_meaning};
 ghost use Rattle.lw_statements.specs.GzzParts.{opened_with};

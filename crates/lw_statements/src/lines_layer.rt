@@ -1,5 +1,7 @@
 ghost use Rattle.std.specs.Prelude.{◌≡◌, map, option_map};
-ghost use Rattle.lw_grammar.specs.Statements.{layer_line, number_line, pair_line, text_line, rect_line, region_line, clear_line, which_line, infront_line, four_line, scrollraster_line, endrefresh_line, BoxAct, FillAct, bounds};
+ghost use Rattle.lw_grammar.specs.Statements.{layer_line, number_line, pair_line, text_line, rect_line, region_line};
+ghost use Rattle.lw_grammar.specs.Statements.{clear_line, which_line, infront_line, four_line, scrollraster_line};
+ghost use Rattle.lw_grammar.specs.Statements.{endrefresh_line, BoxAct, FillAct, bounds};
 ghost use Rattle.lw_words.specs.TokenMeaning.{token_meaning};
 ghost use Rattle.lw_statements.specs.StatementMeaning.{statement_meaning};
 

@@ -1,5 +1,7 @@
 ghost use Rattle.std.specs.Prelude.{◌≡◌, ◌≤◌, ℕ, List, ◌∷◌, map, option_map, IfOk};
-ghost use Rattle.lw_grammar.specs.Statements.{Statement as StatementValue, layers_line, screen_line, glyph_of_bytes, glyph_line, bitmap_line, row_line, pattern_word, pattern_words, pattern_line, numbers_line, all_numbers, name_line, alone_line};
+ghost use Rattle.lw_grammar.specs.Statements.{Statement as StatementValue, layers_line, screen_line, glyph_of_bytes};
+ghost use Rattle.lw_grammar.specs.Statements.{glyph_line, bitmap_line, row_line, pattern_word, pattern_words, pattern_line};
+ghost use Rattle.lw_grammar.specs.Statements.{numbers_line, all_numbers, name_line, alone_line};
 ghost use Rattle.lw_grammar.specs.Tokens.{NameToken, bytes_in};
 ghost use Rattle.lw_words.specs.TokenMeaning.{token_meaning};
 ghost use Rattle.lw_statements.specs.StatementMeaning.{statement_meaning};
@@ -209,7 +211,8 @@ pub(crate) fn only_name<'a>(tokens: &[Token<'a>]) -> Option<&'a [u8]>
 
 /// A line that is its verb alone.
 pub(crate) fn alone<'a>(statement: Statement<'a>, tokens: &[Token<'a>]) -> Option<Statement<'a>>
-    ensures { option_map statement_meaning result ≡ alone_line (statement_meaning statement.entry) (map token_meaning tokens.now) }
+    ensures { option_map statement_meaning result
+        ≡ alone_line (statement_meaning statement.entry) (map token_meaning tokens.now) }
 {
     match tokens {
         [] => Some(statement),

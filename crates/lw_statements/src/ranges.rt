@@ -3,8 +3,11 @@ ghost use Rattle.std.specs.List.{list_all};
 ghost use Rattle.lw_region.specs.Rectangle.{within};
 ghost use Rattle.lw_area.specs.Polygons.{is_in_range};
 ghost use Rattle.lw_calls.specs.Limits.{is_coordinate, axis_fits, rect_fits, coordinates_fit as places_meant, is_extent};
-ghost use Rattle.lw_grammar.specs.Statements.{is_hook_number, is_own_size, is_new_layer_in_range, place_and_size_fit, is_area_in_range, greatest_number, is_act_in_range, version_at_screen, are_sizes_in_range, is_line_in_range, is_gzz_box, is_gzz_in_range, bounds};
-ghost use Rattle.lw_statements.specs.StatementMeaning.{corners_meaning, new_layer_meaning, area_meaning, act_meaning, statement_meaning, point_meaning, gzz_meaning};
+ghost use Rattle.lw_grammar.specs.Statements.{is_hook_number, is_own_size, is_new_layer_in_range, place_and_size_fit};
+ghost use Rattle.lw_grammar.specs.Statements.{is_area_in_range, greatest_number, is_act_in_range, version_at_screen};
+ghost use Rattle.lw_grammar.specs.Statements.{are_sizes_in_range, is_line_in_range, is_gzz_box, is_gzz_in_range, bounds};
+ghost use Rattle.lw_statements.specs.StatementMeaning.{corners_meaning, new_layer_meaning, area_meaning, act_meaning};
+ghost use Rattle.lw_statements.specs.StatementMeaning.{statement_meaning, point_meaning, gzz_meaning};
 
 use crate::statement::{
     Act, AskedArea, AskedPoint, AskedPolygon, Corners, GzzAct, NewLayer, Statement,
@@ -242,8 +245,8 @@ fn last_of(first: i64, size: i64) -> i64
     first + size - 1
 }
 
-/// Whether along one axis the place and the size of a box are a coordinate, and a size from the least one to that of the screen, and
-/// the last column or row is a coordinate.
+/// Whether along one axis the place and the size of a box are a coordinate, and a size from the least one to that of the screen,
+/// and the last column or row is a coordinate.
 #[tactic(auto, using(std::proofs::lemmas::Int::ints), unfolding(lw_region::specs::Rectangle::within))]
 fn lies_along(least: i64, first: i64, size: i64, most: u32) -> bool
     requires least { pos 1 ≤ℤ least }

@@ -1,5 +1,7 @@
 ghost use Rattle.std.specs.Prelude.{◌≡◌};
-ghost use Rattle.lw_grammar.specs.Script.{is_screen_due, are_assets_due, are_calls_due, are_tasks_due, are_numbers_due, is_nothing_due, is_ordered, is_audited, is_known_in, belongs_in as belongs_meant, may_end as may_end_meant};
+ghost use Rattle.lw_grammar.specs.Script.{is_screen_due, are_assets_due, are_calls_due, are_tasks_due, are_numbers_due};
+ghost use Rattle.lw_grammar.specs.Script.{is_nothing_due, is_ordered, is_audited, is_known_in, belongs_in as belongs_meant};
+ghost use Rattle.lw_grammar.specs.Script.{may_end as may_end_meant};
 ghost use Rattle.lw_statements.specs.SectionMeaning.{section_meaning};
 
 use lw_grammar::{Form, NumberVerb, PartVerb, Verb};

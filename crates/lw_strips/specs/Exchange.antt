@@ -34,14 +34,17 @@ total (suc n) f = total n f + f n
 -- All owners together lose a rectangle as often as there are pieces of it, and gain it as often. In the list of the rectangles
 -- that one owner loses, or gains, a rectangle stands as often as that owner loses, or gains, it.
 pub record ExchangeLaw : Type 0 where
-  pub losses : (pieces : List Piece) (n : ℕ) (r : Rectangle) → All (λ p. p.from < n) pieces → total n (λ owner. lost_by r owner pieces) ≡ pieces_of r pieces
-  pub gains : (pieces : List Piece) (n : ℕ) (r : Rectangle) → All (λ p. p.to < n) pieces → total n (λ owner. gained_by r owner pieces) ≡ pieces_of r pieces
+  pub losses : (pieces : List Piece) (n : ℕ) (r : Rectangle) → All (λ p. p.from < n) pieces
+      → total n (λ owner. lost_by r owner pieces) ≡ pieces_of r pieces
+  pub gains : (pieces : List Piece) (n : ℕ) (r : Rectangle) → All (λ p. p.to < n) pieces
+      → total n (λ owner. gained_by r owner pieces) ≡ pieces_of r pieces
   pub lost : (r : Rectangle) (owner : ℕ) (pieces : List Piece) → copies r (lost_rects owner pieces) ≡ lost_by r owner pieces
   pub gained : (r : Rectangle) (owner : ℕ) (pieces : List Piece) → copies r (gained_rects owner pieces) ≡ gained_by r owner pieces
 
 -- How a pool's numbers change: by what is given, and by one where a strip is claimed. A pool without any is empty.
 pub record CountingLaw : Type 0 where
-  pub given : (r : Rectangle) (old given : List StripView) → copies_in r (old ++ reverse given) ≡ copies_in r old + copies_in r given
+  pub given : (r : Rectangle) (old given : List StripView)
+      → copies_in r (old ++ reverse given) ≡ copies_in r old + copies_in r given
   pub claimed : (r q : Rectangle) (s : StripView) (old new : PoolView) → IsClaimed q s old new
       → copies_in r old.strips ≡ copies_in r new.strips + (if same_rectangle r q then 1 else 0)
   pub empty : (strips : List StripView) → ((r : Rectangle) → copies_in r strips ≡ 0) → strips ≡ []

@@ -1,6 +1,7 @@
 -- Strips that are laid on a bitmap, each pen at its place. A bitmap on a window of the screen has the window's top left corner
 -- for its pixel (0, 0).
-use Rattle.std.specs.Prelude.{◌≡◌, ℕ, ◌<◌, Bool, true, if◌then◌else◌, List, [], ◌∷◌, ◌++◌, length, slice_index_or, Some, ℤ, pos, negsuc, ◌+ℤ◌, ◌-ℤ◌}
+use Rattle.std.specs.Prelude.{◌≡◌, ℕ, ◌<◌, Bool, true, if◌then◌else◌, List, [], ◌∷◌, ◌++◌, length, slice_index_or, Some, ℤ, pos}
+use Rattle.std.specs.Prelude.{negsuc, ◌+ℤ◌, ◌-ℤ◌}
 use Rattle.lw_region.specs.Rectangle.{Rectangle, has_pixel, AreApart, width, height}
 use Rattle.lw_region.specs.Bands.{covers}
 use Rattle.lw_planes.specs.Bitmap.{Bitmap, bitmap, pen_at}
@@ -9,7 +10,8 @@ use Rattle.lw_strips.specs.Strips.{StripView, blank_planes, strip_of, rects_of, 
 -- the bitmap whose pixel (0, 0) is the place (left, top), with these pens where the test holds, both asked at places
 abbrev pub laid : (ℤ → ℤ → Bool) → (ℤ → ℤ → ℕ) → ℤ → ℤ → Bitmap → Bitmap
 laid on pen left top b =
-    bitmap b.width b.height b.depth (λ x y. if on (left +ℤ pos x) (top +ℤ pos y) then pen (left +ℤ pos x) (top +ℤ pos y) else pen_at b x y)
+    bitmap b.width b.height b.depth
+    (λ x y. if on (left +ℤ pos x) (top +ℤ pos y) then pen (left +ℤ pos x) (top +ℤ pos y) else pen_at b x y)
 
 -- the bitmap on a window with the strip's pens where the strip is
 abbrev pub with_strip : Rectangle → StripView → Bitmap → Bitmap
@@ -51,20 +53,23 @@ part_of s r = record {
 -- no two strips have a place in common
 abbrev pub AreDisjoint : List StripView → Type 0
 AreDisjoint strips =
-    (i j : ℕ) (d : StripView) → i < j → j < length strips → AreApart (slice_index_or strips i d).rect (slice_index_or strips j d).rect
+    (i j : ℕ) (d : StripView) → i < j → j < length strips
+    → AreApart (slice_index_or strips i d).rect (slice_index_or strips j d).rect
 
 -- Laying b and then a is laying all of a and b, a's pens in front. What is laid on pen 0 is composed, and the screen is a window.
 pub record LayingLaw : Type 0 where
   pub twice : (window : Rectangle) (a b : List StripView) (planes : Bitmap)
       → with_strips window a (with_strips window b planes) ≡ with_strips window (a ++ b) planes
-  pub blank : (window : Rectangle) (depth : ℕ) (strips : List StripView) → with_strips window strips (blank_planes window depth) ≡ composed window depth strips
+  pub blank : (window : Rectangle) (depth : ℕ) (strips : List StripView)
+      → with_strips window strips (blank_planes window depth) ≡ composed window depth strips
   pub whole : (w h depth : ℕ) (strips : List StripView) → composed (screen w h) depth strips ≡ assembled w h depth strips
 
 -- Where strips are disjoint, each one's pens are at its places, and on a screen that is assembled of them at those on the screen.
 pub record PlacesLaw : Type 0 where
   pub pens : (strips : List StripView) → AreDisjoint strips → (k : ℕ) (d : StripView) (x y : ℤ) → k < length strips
       → has_pixel (slice_index_or strips k d).rect x y ≡ true → pen_in strips x y ≡ strip_pen (slice_index_or strips k d) x y
-  pub assembled : (w h depth : ℕ) (strips : List StripView) → AreDisjoint strips → (k : ℕ) (d : StripView) (x y : ℕ) → x < w → y < h → k < length strips
+  pub assembled : (w h depth : ℕ) (strips : List StripView) → AreDisjoint strips → (k : ℕ) (d : StripView) (x y : ℕ) → x < w
+      → y < h → k < length strips
       → has_pixel (slice_index_or strips k d).rect (pos x) (pos y) ≡ true
       → pen_at (assembled w h depth strips) x y ≡ strip_pen (slice_index_or strips k d) (pos x) (pos y)
 

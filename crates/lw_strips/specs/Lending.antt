@@ -12,8 +12,10 @@ use Rattle.lw_strips.specs.contracts.strip.Strip.{the_row}
 pub record AreRowsOf (b : Bitmap) (plane y rows : ℕ) (bytes : List ℕ) : Type 0 where
   pub long : length bytes ≡ rows * row_bytes b.width
   pub near : length bytes < 2 ^ 32
-  pub bits : (x j : ℕ) → x < b.width → j < rows → row_bit bytes (8 * (j * row_bytes b.width) + x) ≡ bit_at (pen_at b x (y + j)) plane
+  pub bits : (x j : ℕ) → x < b.width → j < rows
+      → row_bit bytes (8 * (j * row_bytes b.width) + x) ≡ bit_at (pen_at b x (y + j)) plane
 
 -- the strip lends bytes of rows of a plane from row y on, and afterwards has there what these bytes then hold
 abbrev pub LendsRows : MutBor StripView → ℕ → ℕ → MutBor (List ℕ) → Fml
-LendsRows strip plane y row = Lends the_row (Array u8 0) strip row (λ bytes. record strip.now { planes = with_row strip.now.planes plane y bytes })
+LendsRows strip plane y row =
+    Lends the_row (Array u8 0) strip row (λ bytes. record strip.now { planes = with_row strip.now.planes plane y bytes })

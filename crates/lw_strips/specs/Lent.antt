@@ -26,7 +26,8 @@ changed plane y bytes None = None
 changed plane y bytes (Some b) = Some (with_row b plane y bytes)
 
 abbrev pub LendsPens : MutBor Pens → ℕ → ℕ → MutBor (List ℕ) → Fml
-LendsPens pens plane y row = Lends the_row (Array u8 0) pens row (λ bytes. record pens.now { planes = changed plane y bytes pens.now.planes })
+LendsPens pens plane y row =
+    Lends the_row (Array u8 0) pens row (λ bytes. record pens.now { planes = changed plane y bytes pens.now.planes })
 
 -- there is a bitmap, and it has the block
 abbrev pub HaveBlock : Option Bitmap → Block → Bitmap → Type 0

@@ -18,8 +18,8 @@ pub fn counting_law()
     ensures { CountingLaw }
 {}
 
-/// In a list of pieces all owners together lose and gain each rectangle as often as it is there, and the list of the rectangles that
-/// one owner loses or gains has each as often as it does.
+/// In a list of pieces all owners together lose and gain each rectangle as often as it is there, and the list of the rectangles
+/// that one owner loses or gains has each as often as it does.
 pub fn exchange_law()
     ensures { ExchangeLaw }
 {}

@@ -114,8 +114,8 @@ fn lay_on(planes: &mut Planes, window: &Rect, strip: &Strip)
 }
 
 /// Lays the bitmap of a rectangle on that of a window: each pixel of the window that is in the rectangle gets the pen that the
-/// rectangle's bitmap has for this place of the screen, and each other one stays as it was. Each bitmap has the width and height of
-/// its rectangle, and both have as many planes. No memory is taken.
+/// rectangle's bitmap has for this place of the screen, and each other one stays as it was. Each bitmap has the width and height
+/// of its rectangle, and both have as many planes. No memory is taken.
 pub fn lay_planes(planes: &mut Planes, window: &Rect, rect: &Rect, source: &Planes)
     requires size { IsSizeOf window.now planes.old }
     requires source_size { IsSizeOf rect.now source.now }

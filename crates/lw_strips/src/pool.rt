@@ -1,4 +1,5 @@
-ghost use Rattle.std.specs.Prelude.{◌≡◌, ◌↔◌, ◌+◌, ◌-◌, ◌≤◌, [], ◌∷◌, ◌++◌, reverse, length, IfSome, IsNone, OnOk, OnErr, IsOk, MatchOption};
+ghost use Rattle.std.specs.Prelude.{◌≡◌, ◌↔◌, ◌+◌, ◌-◌, ◌≤◌, [], ◌∷◌, ◌++◌, reverse, length, IfSome, IsNone, OnOk, OnErr, IsOk};
+ghost use Rattle.std.specs.Prelude.{MatchOption};
 ghost use Rattle.lw_region.specs.Rectangle.{Rectangle};
 ghost use Rattle.lw_strips.specs.Pools.{same_rectangle, copies, copies_in, IsClaimed, HasNoOther, IsPlaceOf};
 

@@ -35,7 +35,8 @@ impl Model for Strip {
 
     ghost view = { λ s. strip_of s.rect s.pens.depth s.pens.planes };
 
-    ghost invariant = { λ s. IsStrip (strip_of s.rect s.pens.depth s.pens.planes) × ((strip_of s.rect s.pens.depth s.pens.planes).planes.depth ≡ s.pens.depth) };
+    ghost invariant = { λ s. IsStrip (strip_of s.rect s.pens.depth s.pens.planes)
+        × ((strip_of s.rect s.pens.depth s.pens.planes).planes.depth ≡ s.pens.depth) };
 }
 
 impl Strip {

@@ -1,6 +1,7 @@
 -- For private contracts.
 -- A bitmap of which rectangles of the screen's plane show portions, each with a buffer of its size.
-use Rattle.std.specs.Prelude.{◌≡◌, ℕ, ◌+◌, ◌<◌, Bool, true, ◌&&◌, List, [], length, map, ℤ, pos, ◌+ℤ◌, ◌-ℤ◌, ◌≤ℤ◌, int_le, Option, Some, None}
+use Rattle.std.specs.Prelude.{◌≡◌, ℕ, ◌+◌, ◌<◌, Bool, true, ◌&&◌, List, [], length, map, ℤ, pos, ◌+ℤ◌, ◌-ℤ◌, ◌≤ℤ◌, int_le}
+use Rattle.std.specs.Prelude.{Option, Some, None}
 use Rattle.std.specs.List.{All, slice_index_or}
 use Rattle.lw_strips.specs.Strips.{StripView, filled}
 use Rattle.lw_region.specs.Rectangle.{Rectangle, IsOrdered, width, height}
@@ -25,7 +26,8 @@ pub record IsShown (own : Bitmap) (left top : ℤ) (r : Rectangle) (b : Bitmap) 
 -- each rectangle does, with its buffer
 pub record AreShown (own : Bitmap) (left top : ℤ) (rects : List Rectangle) (buffers : List Bitmap) : Type 0 where
   pub many : length buffers ≡ length rects
-  pub each : (n : ℕ) (r : Rectangle) (b : Bitmap) → n < length rects → IsShown own left top (slice_index_or rects n r) (slice_index_or buffers n b)
+  pub each : (n : ℕ) (r : Rectangle) (b : Bitmap) → n < length rects
+      → IsShown own left top (slice_index_or rects n r) (slice_index_or buffers n b)
 
 -- the portion of the bitmap on a rectangle
 unfoldable pub portion : Bitmap → ℤ → ℤ → Rectangle → Bitmap
@@ -71,7 +73,8 @@ pub record IsNear (z : ℤ) : Type 0 where
 
 -- the draft with all bits in its own bitmap, and scrolled so far
 abbrev pub scrolled_by : LiveDraft → ℤ → ℤ → LiveDraft
-scrolled_by d dx dy = record d { superbits = Some (live_view d).layer.bits; scroll_x = d.scroll_x +ℤ dx; scroll_y = d.scroll_y +ℤ dy }
+scrolled_by d dx dy =
+    record d { superbits = Some (live_view d).layer.bits; scroll_x = d.scroll_x +ℤ dx; scroll_y = d.scroll_y +ℤ dy }
 
 -- a draft of a live super-bitmap layer whose portion may be moved so
 abbrev pub MayScroll : DraftState → ℤ → ℤ → Type 0

@@ -36,7 +36,8 @@ pub fn scroll(cell: &mut Cell, dx: i32, dy: i32) -> bool
 
 // The portion moved so lies in the bitmap.
 fn look_fits(look: &Look, dx: i32, dy: i32) -> bool
-    ensures { result ≡ portion_fits (look.now.scroll_x +ℤ dx) (look.now.scroll_y +ℤ dy) look.now.bits_w look.now.bits_h look.now.bounds }
+    ensures { result
+        ≡ portion_fits (look.now.scroll_x +ℤ dx) (look.now.scroll_y +ℤ dy) look.now.bits_w look.now.bits_h look.now.bounds }
 {
     let across = axis_fits(look.scroll_x, dx, look.bounds.width(), look.bits_w);
     let down = axis_fits(look.scroll_y, dy, look.bounds.height(), look.bits_h);
@@ -100,7 +101,8 @@ fn show_portion(live: &mut LiveDraft)
     requires sound { IsLiveDraft live.old }
     requires own { is_super live.old.kind ≡ true }
     ensures rest { live.new ≡ record live.old { strips = live.new.strips } }
-    ensures strips { live.new.strips.items ≡ refilled_by live.old.superbits (left_of live.old) (top_of live.old) live.old.strips.items }
+    ensures strips { live.new.strips.items
+        ≡ refilled_by live.old.superbits (left_of live.old) (top_of live.old) live.old.strips.items }
 {
     // Reading these tells the proof that the visible rectangles lie in the bounds.
     let _ = live.parts.visible();

@@ -1,5 +1,5 @@
-//! The machine's run of a plan on layers: in an order that is given, with no lock; and of tasks on threads, in the order that their
-//! tickets give.
+//! The machine's run of a plan on layers: in an order that is given, with no lock; and of tasks on threads, in the order that
+//! their tickets give.
 #![tactic(auto)]
 
 mod run;

@@ -1,5 +1,6 @@
 -- For private contracts.
--- Templates: rows of bits that stand for the foreground of what is painted (the manual's `BltTemplate`), and those that a text has.
+-- Templates: rows of bits that stand for the foreground of what is painted (the manual's `BltTemplate`), and those that a text
+-- has.
 use Rattle.std.specs.Prelude.{ℕ, ◌-◌, ◌==◌, Bool, ◌&&◌, nat_le, if◌then◌else◌, List, [], pos, ◌-ℤ◌}
 use Rattle.std.specs.List.{slice_index_or}
 use Rattle.lw_machine.specs.Layer.{Raster}

@@ -1,4 +1,5 @@
-ghost use Rattle.std.specs.Prelude.{◌≡◌, ℕ, ◌+◌, ◌*◌, ◌<◌, ◌≤◌, not, ◌&&◌, true, if◌then◌else◌, length, ℤ, pos, ◌+ℤ◌, ◌-ℤ◌, ◌≤ℤ◌, int_le};
+ghost use Rattle.std.specs.Prelude.{◌≡◌, ℕ, ◌+◌, ◌*◌, ◌<◌, ◌≤◌, not, ◌&&◌, true, if◌then◌else◌, length, ℤ, pos, ◌+ℤ◌, ◌-ℤ◌};
+ghost use Rattle.std.specs.Prelude.{◌≤ℤ◌, int_le};
 ghost use Rattle.lw_kernels.specs.Kernel.{is_between};
 ghost use Rattle.lw_machine.specs.Shapes.{draw_text};
 ghost use Rattle.lw_layer.specs.View.{shows, with_layer};

@@ -14,7 +14,9 @@ use std::alloc::AllocError;
 /// Writes the rows of a plane, each on a line in hexadecimal digits.
 pub fn push_rows(out: &mut Vec<u8>, planes: &Planes, plane: u32) -> Result<(), AllocError>
     requires { plane < planes.now.depth }
-    ensures ok { OnOk result (out.new.items ≡ out.old.items ++ flat_map (λ y. line_of (flat_map hex_byte (plane_row planes.now plane y))) (range_with_len 0 planes.now.height)) }
+    ensures ok { OnOk result (out.new.items
+        ≡ out.old.items ++ flat_map (λ y. line_of (flat_map hex_byte (plane_row planes.now plane y)))
+        (range_with_len 0 planes.now.height)) }
     ensures err { OnErr result (Keeps out.old.items out.new.items) }
 {
     for y in 0..planes.height() {

@@ -49,8 +49,8 @@ which 320 120
 end
 ";
 
-// One task after another: clk has no damage as its task ends, so no message; ed is told first that it became active; and the pixel
-// that is looked at lies in pal.
+// One task after another: clk has no damage as its task ends, so no message; ed is told first that it became active; and the
+// pixel that is looked at lies in pal.
 const REALISTIC_REPLIES: &[u8] = b"replies clock 8
 ok
 ok

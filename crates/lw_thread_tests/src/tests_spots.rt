@@ -7,9 +7,9 @@ use std::thread;
 // How many turns a hold lasts at most.
 const TURNS: u32 = 50_000_000;
 
-// How many turns a test looks on to see that something doesn't happen. Where the machine is slow it may be that it only hasn't happened
-// yet: then a test passes that should have failed, and none fails that should have passed. They are few, since a turn can take
-// most of a millisecond under load, and a test has a minute.
+// How many turns a test looks on to see that something doesn't happen. Where the machine is slow it may be that it only hasn't
+// happened yet: then a test passes that should have failed, and none fails that should have passed. They are few, since a turn
+// can take most of a millisecond under load, and a test has a minute.
 const FEW_TURNS: u32 = 20_000;
 
 /// Holds until the count is at least so high, for a number of turns. Whether it was.
@@ -32,8 +32,8 @@ fn comes_to(count: &AtomicU32, least: u32, turns: u32) -> bool {
     false
 }
 
-/// Of each of four tasks, how many spots it passed, and a number into which each of them is worked; and whether a hold ran out, or a
-/// task was seen to go on that was held up.
+/// Of each of four tasks, how many spots it passed, and a number into which each of them is worked; and whether a hold ran out,
+/// or a task was seen to go on that was held up.
 #[derive(Drop)]
 pub struct Spots {
     counts: [AtomicU32; 4],
@@ -91,8 +91,8 @@ impl Spots {
         }
     }
 
-    /// Whether no hold ran out, no task was seen to go on that was held up, and the calls of each of the plan's tasks passed their spots
-    /// in their order.
+    /// Whether no hold ran out, no task was seen to go on that was held up, and the calls of each of the plan's tasks passed
+    /// their spots in their order.
     pub fn are_due(&self, plan: &Plan) -> bool {
         if self.late.load(Ordering::SeqCst) != 0 || self.early.load(Ordering::SeqCst) != 0 {
             return false;

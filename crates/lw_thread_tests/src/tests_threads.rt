@@ -38,8 +38,8 @@ fill y 0 0 3 0
 end
 ";
 
-// A gate at which task 0's fill waits for the other task's creation, which needs every lock; task 1's fill waits until task 0's holds
-// its lock; and task 0's fill, which holds it, waits until task 1's was answered.
+// A gate at which task 0's fill waits for the other task's creation, which needs every lock; task 1's fill waits until task 0's
+// holds its lock; and task 0's fill, which holds it, waits until task 1's was answered.
 #[derive(Drop)]
 struct FillsMeet {
     spots: Spots,
@@ -124,8 +124,8 @@ fill x 2 0 3 0
 end
 ";
 
-// A gate at which task 1's fill waits until task 0's holds the layer's lock; and task 0's fill, which holds it, looks on whether task 1's
-// comes to hold it too.
+// A gate at which task 1's fill waits until task 0's holds the layer's lock; and task 0's fill, which holds it, looks on whether
+// task 1's comes to hold it too.
 #[derive(Drop)]
 struct FillsTakeTurns {
     spots: Spots,
@@ -151,8 +151,8 @@ fn a_layer_is_held_by_one_call_at_a_time(rt: HostRuntime) -> Result<(), Fail> {
     runs_through(&rt, &gate, &gate.spots, &plan, ONE_LAYER)
 }
 
-// A task with a layer, and a task with calls of each kind that touch others: fills, a blit, a look, a call on registers, a group on one
-// layer, and an update.
+// A task with a layer, and a task with calls of each kind that touch others: fills, a blit, a look, a call on registers, a group
+// on one layer, and an update.
 const MANY_LAYERS: &[u8] = b"screen 48 1 1
 task a
 create x smart front 0 0 3 0
@@ -179,8 +179,8 @@ endrefresh s full
 end
 ";
 
-// A gate at which task 0's fill waits for the other task's creations, which need every lock; task 1's next call waits until that fill
-// holds its lock; and the fill, which holds it, waits until all of task 1's calls were answered.
+// A gate at which task 0's fill waits for the other task's creations, which need every lock; task 1's next call waits until that
+// fill holds its lock; and the fill, which holds it, waits until all of task 1's calls were answered.
 #[derive(Drop)]
 struct OthersGoOn {
     spots: Spots,
@@ -217,7 +217,8 @@ orrect 0 0 0 3 1
 end
 ";
 
-// What a hook and a gate tell each other: that the hook is being turned, that the other call was answered, and that a hold ran out.
+// What a hook and a gate tell each other: that the hook is being turned, that the other call was answered, and that a hold ran
+// out.
 #[derive(Drop)]
 struct Meeting {
     turning: AtomicU32,
@@ -307,7 +308,8 @@ fn a_region_call_goes_on_while_a_hook_is_turned(rt: HostRuntime) -> Result<(), F
     Ok(())
 }
 
-// What a hook and a gate tell each other: that the hook was asked or turned, that it was turned, and what came too early or not at all.
+// What a hook and a gate tell each other: that the hook was asked or turned, that it was turned, and what came too early or not
+// at all.
 #[derive(Drop)]
 struct Watch {
     used: AtomicU32,
@@ -384,8 +386,8 @@ fn a_hook_is_used_while_its_creation_is_made(rt: HostRuntime) -> Result<(), Fail
     Ok(())
 }
 
-// Four tasks and eight layers, which cover one another: calls on registers, on one layer, on two layers in both directions, looks, and
-// arrangements; groups on one layer, updates, and groups of arrangements.
+// Four tasks and eight layers, which cover one another: calls on registers, on one layer, on two layers in both directions,
+// looks, and arrangements; groups on one layer, updates, and groups of arrangements.
 const MANY_CALLS: &[u8] = b"screen 48 24 2
 task a
 create a1 smart front 0 0 23 11

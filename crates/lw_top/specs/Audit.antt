@@ -27,7 +27,7 @@ pub record DiffersInOrder (hooks : List Hook) (plan : Plan) (text : List ℕ) (p
   pub legal : is_legal plan order ≡ true
   pub differs : DiffersAt text (run_report plan hooks order) place
 
--- The place at which a text isn't the machine's report: it begins with no order for the plan's calls, and stops there; or it differs
--- there from the report in the order with which it begins.
+-- The place at which a text isn't the machine's report: it begins with no order for the plan's calls, and stops there; or it
+-- differs there from the report in the order with which it begins.
 abbrev pub IsDifference : List Hook → Plan → List ℕ → ℕ → Type 0
 IsDifference hooks plan text place = StopsAt (call_count plan) text place ⊎ DiffersInOrder hooks plan text place

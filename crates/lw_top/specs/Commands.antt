@@ -1,5 +1,6 @@
 -- The program's commands: which words each has, what it reads, and what it writes for a script.
-use Rattle.std.specs.Prelude.{◌≡◌, ℕ, ◌≤◌, Bool, true, false, IsTrue, ◌&&◌, if◌then◌else◌, List, [], ◌∷◌, codes, bytes_eq, drop, pos, unsigned_abs, Option, Some, None}
+use Rattle.std.specs.Prelude.{◌≡◌, ℕ, ◌≤◌, Bool, true, false, IsTrue, ◌&&◌, if◌then◌else◌, List, [], ◌∷◌, codes, bytes_eq, drop}
+use Rattle.std.specs.Prelude.{pos, unsigned_abs, Option, Some, None}
 use Rattle.std.specs.Option.{option_map}
 use Rattle.std.specs.String.{string_bytes}
 use Rattle.std.specs.declared.string.String.{String}
@@ -32,8 +33,8 @@ command_named word =
     else (if bytes_eq word (codes "audit") then Some Audit
     else (if bytes_eq word (codes "ilbm") then Some (Replay Picture) else None))))
 
--- What the words ask for: something with the script in the input, the demo of a number with so many tasks, what the display in the
--- input shows, or the picture in the input as a bitmap of a name.
+-- What the words ask for: something with the script in the input, the demo of a number with so many tasks, what the display in
+-- the input shows, or the picture in the input as a bitmap of a name.
 pub data Asked : Type 0 where
   OfScript : ScriptCommand → Asked
   OfDemo : ℕ → ℕ → Asked
@@ -66,15 +67,16 @@ demo_of number tasks = None
 abbrev pub bitmap_of : List ℕ → List ℕ → Option Asked
 bitmap_of word name = if bytes_eq word (codes "bitmap") && is_a_name name then Some (OfBitmap name) else None
 
--- What the words ask for, if they are a command: a command on a script, `display`, `demo` with a number of 32 bits and a number of 1
--- to 16 tasks, both spelled as in a script, or `bitmap` with a name of a script.
+-- What the words ask for, if they are a command: a command on a script, `display`, `demo` with a number of 32 bits and a number
+-- of 1 to 16 tasks, both spelled as in a script, or `bitmap` with a name of a script.
 abbrev pub command_of : {A : Type 0} → List (String A) → Option Asked
 command_of [] = None
 command_of (word ∷ []) = asked_in_a_word (string_bytes word)
 command_of (word ∷ name ∷ []) = bitmap_of (string_bytes word) (string_bytes name)
 command_of (word ∷ number ∷ tasks ∷ []) =
     if bytes_eq (string_bytes word) (codes "demo")
-    then demo_of (number_within 0 4294967295 (token_of (string_bytes number))) (number_within 1 16 (token_of (string_bytes tasks)))
+    then demo_of (number_within 0 4294967295 (token_of (string_bytes number)))
+    (number_within 1 16 (token_of (string_bytes tasks)))
     else None
 command_of (word ∷ number ∷ tasks ∷ other ∷ words) = None
 
@@ -107,16 +109,17 @@ abbrev pub output_of : Output → Plan → List Hook → List ℕ → List ℕ
 output_of Report plan hooks order = run_report plan hooks order
 output_of Picture plan hooks order = encoded (run_final plan hooks order).planes
 
--- The text that a command writes for a script in an input, where these hooks are handed in: the report of the machine's run of its
--- plan with them, in a legal order, which the report prints; or what is written of the run in the order that stands in the script,
--- which is legal then; or the plan's canonical text; or `same`, where the report behind the script is the machine's in some legal
--- order.
+-- The text that a command writes for a script in an input, where these hooks are handed in: the report of the machine's run of
+-- its plan with them, in a legal order, which the report prints; or what is written of the run in the order that stands in the
+-- script, which is legal then; or the plan's canonical text; or `same`, where the report behind the script is the machine's in
+-- some legal order.
 abbrev pub IsTextFor : List Hook → ScriptCommand → List ℕ → ScriptInput → List ℕ → Type 0
 IsTextFor hooks Run input script text = IsMachineReport hooks script.plan text
 IsTextFor hooks Check input script text = text ≡ canonical_text script.plan
 IsTextFor hooks (Replay output) input script text =
     (is_legal script.plan script.order ≡ true) × (text ≡ output_of output script.plan hooks script.order)
-IsTextFor hooks Audit input script text = IsMachineReport hooks script.plan (behind_script input script) × (text ≡ line_of (codes "same"))
+IsTextFor hooks Audit input script text =
+    IsMachineReport hooks script.plan (behind_script input script) × (text ≡ line_of (codes "same"))
 
 -- The first bad place of the order that stands in a script, of which a replay speaks, or in a report, of which `audit` does.
 abbrev pub IsBadOrderFor : ScriptCommand → List ℕ → ScriptInput → ℕ → Type 0

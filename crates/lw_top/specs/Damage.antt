@@ -20,11 +20,12 @@ abbrev pub output_by_history : Output → Plan → List Hook → List ℕ → Li
 output_by_history Report plan hooks order = report plan order (final_by_history plan hooks order)
 output_by_history Picture plan hooks order = encoded (final_by_history plan hooks order).planes
 
--- The text that a command writes for a script, as `IsTextFor` has it, but that the report, written or audited, has of each simple layer
--- the damage which is told by the history of the order that it prints.
+-- The text that a command writes for a script, as `IsTextFor` has it, but that the report, written or audited, has of each simple
+-- layer the damage which is told by the history of the order that it prints.
 abbrev pub IsTextByHistory : List Hook → ScriptCommand → List ℕ → ScriptInput → List ℕ → Type 0
 IsTextByHistory hooks Run input script text =
-    (order : List ℕ) × (is_legal script.plan order ≡ true) × (text ≡ report script.plan order (final_by_history script.plan hooks order))
+    (order : List ℕ) × (is_legal script.plan order ≡ true)
+    × (text ≡ report script.plan order (final_by_history script.plan hooks order))
 IsTextByHistory hooks Check input script text = text ≡ canonical_text script.plan
 IsTextByHistory hooks (Replay output) input script text =
     (is_legal script.plan script.order ≡ true) × (text ≡ output_by_history output script.plan hooks script.order)

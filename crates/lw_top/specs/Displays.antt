@@ -14,8 +14,8 @@ abbrev pub refusal_of : ℕ → ShowReason → Status
 refusal_of line (Line reason) = Refused line reason
 refusal_of line BadOrder = RefusedOrder line
 
--- The outcome on an input, which is the answer that is due and its text: more bytes than the limit are too long; else a show gives
--- the text of its display after all acts; and of any other input the first bad line is refused for its first reason.
+-- The outcome on an input, which is the answer that is due and its text: more bytes than the limit are too long; else a show
+-- gives the text of its display after all acts; and of any other input the first bad line is refused for its first reason.
 abbrev pub IsDisplayOutcome : List ℕ → Status → List ℕ → Type 0
 IsDisplayOutcome input TooLong text = (input_limit < length input) × (text ≡ text_of TooLong)
 IsDisplayOutcome input Done text =

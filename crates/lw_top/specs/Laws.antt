@@ -6,19 +6,21 @@ use Rattle.lw_calls.specs.Orders.{is_legal}
 use Rattle.lw_grammar.specs.Script.{ScriptInput, SpellsInput}
 use Rattle.lw_machine.specs.Hook.{Hook}
 use Rattle.lw_top.specs.declared.status.Status.{Status}
-use Rattle.lw_top.specs.declared.status.Status.TheVariants.{Done, Refused, RefusedOrder, Usage, ReadFault, WriteFault, NoMemory, TooLong, Differs, BadOrder, BadPicture}
+use Rattle.lw_top.specs.declared.status.Status.TheVariants.{Done, Refused, RefusedOrder, Usage, ReadFault, WriteFault, NoMemory}
+use Rattle.lw_top.specs.declared.status.Status.TheVariants.{TooLong, Differs, BadOrder, BadPicture}
 use Rattle.lw_top.specs.declared.words.ScriptCommand.{ScriptCommand}
 use Rattle.lw_top.specs.declared.words.ScriptCommand.TheVariants.{Run, Check, Replay, Audit}
 use Rattle.lw_top.specs.Audit.{IsMachineReport}
 use Rattle.lw_top.specs.Bitmaps.{IsBitmapOutcome}
-use Rattle.lw_top.specs.Commands.{Asked, OfScript, OfDemo, OfDisplay, OfBitmap, reads_input, reads_with, behind_script, IsTextFor, IsBadOrderFor, IsDifferenceFor}
+use Rattle.lw_top.specs.Commands.{Asked, OfScript, OfDemo, OfDisplay, OfBitmap, reads_input, reads_with, behind_script}
+use Rattle.lw_top.specs.Commands.{IsTextFor, IsBadOrderFor, IsDifferenceFor}
 use Rattle.lw_top.specs.Demo.{demo_text}
 use Rattle.lw_top.specs.Displays.{IsDisplayOutcome}
 use Rattle.lw_top.specs.Outcome.{IsBadLineOf, IsOutcome, IsTaken, Outcomes, Promised}
 use Rattle.lw_top.specs.Status.{Says, text_of, input_limit}
 
--- A command has an outcome on an input, whatever hooks are handed in. Its answer is one only, and so is its text, but that a run may
--- have several legal orders, and a report for each.
+-- A command has an outcome on an input, whatever hooks are handed in. Its answer is one only, and so is its text, but that a run
+-- may have several legal orders, and a report for each.
 pub record IsDecided (hooks : List Hook) (command : ScriptCommand) (input : List ℕ) : Type 0 where
   pub some : (status : Status) × (text : List ℕ) × IsOutcome hooks command input status text
   pub one : (s q : Status) (a b : List ℕ) → IsOutcome hooks command input s a → IsOutcome hooks command input q b
@@ -40,15 +42,21 @@ DisplaysAreDecided = (input : List ℕ) → HasOneOutcome IsDisplayOutcome input
 
 -- the text is what a command writes for the script that the input spells
 abbrev pub IsTextOf : List Hook → ScriptCommand → List ℕ → List ℕ → Type 0
-IsTextOf hooks command input text = (script : ScriptInput) × SpellsInput (reads_with (length hooks) command) input script × IsTextFor hooks command input script text
+IsTextOf hooks command input text =
+    (script : ScriptInput) × SpellsInput (reads_with (length hooks) command) input script
+    × IsTextFor hooks command input script text
 
 -- the place is the first bad one of the order in the script that the input spells
 abbrev pub IsBadOrderOf : List Hook → ScriptCommand → List ℕ → ℕ → Type 0
-IsBadOrderOf hooks command input place = (script : ScriptInput) × SpellsInput (reads_with (length hooks) command) input script × IsBadOrderFor command input script place
+IsBadOrderOf hooks command input place =
+    (script : ScriptInput) × SpellsInput (reads_with (length hooks) command) input script
+    × IsBadOrderFor command input script place
 
 -- the place is that at which the report behind the script isn't the machine's
 abbrev pub IsDifferenceOf : List Hook → ScriptCommand → List ℕ → ℕ → Type 0
-IsDifferenceOf hooks command input place = (script : ScriptInput) × SpellsInput (reads_with (length hooks) command) input script × IsDifferenceFor hooks command input script place
+IsDifferenceOf hooks command input place =
+    (script : ScriptInput) × SpellsInput (reads_with (length hooks) command) input script
+    × IsDifferenceFor hooks command input script place
 
 -- a script in an input for which a command's text is due
 abbrev pub IsDue : List Hook → ScriptCommand → List ℕ → ScriptInput → Type 0
@@ -91,7 +99,8 @@ pub record OutcomeTells (IsDueOn : Outcomes) (result : Status) (source sink : St
   pub read_fault : result ≡ ReadFault → HasFailed source
   pub write_fault : result ≡ WriteFault → HasFailed sink
   -- the outcome comes, unless a stream failed or memory ran out
-  pub only : IfSome source.old.bytes (λ input. (due : Status) (text : List ℕ) → IsDueOn input due text → IsUnlessStopped due result)
+  pub only : IfSome source.old.bytes (λ input. (due : Status) (text : List ℕ) → IsDueOn input due text
+      → IsUnlessStopped due result)
   pub complete : ¬ HasFailed source → ¬ HasFailed sink
       → IfSome source.old.bytes (λ input. (due : Status) (text : List ℕ) → IsDueOn input due text
       → IsAnswer IsDueOn input due result sink ⊎ (result ≡ NoMemory))
@@ -169,8 +178,8 @@ pub record ToldOfWords (hooks : List Hook) (asked : Option Asked) (result : Stat
   pub taken : TakesAtMost (input_limit + 1) source.old.bytes source.new.bytes
   pub source_count : source.old.faults ≤ source.new.faults
 
--- What `layers` promises has all this in it: a command's promise, else the usage line; nothing read where the words ask for nothing
--- that reads the input; and nothing written after a fault of the source or running out of memory.
+-- What `layers` promises has all this in it: a command's promise, else the usage line; nothing read where the words ask for
+-- nothing that reads the input; and nothing written after a fault of the source or running out of memory.
 abbrev pub AnswersTell : Type 0
 AnswersTell =
     (hooks : List Hook) (asked : Option Asked) (result : Status) (source sink : StreamChange)

@@ -9,7 +9,8 @@ use Rattle.lw_top.specs.declared.status.Status.{Status}
 use Rattle.lw_top.specs.declared.status.Status.TheVariants.{Done, Refused, ReadFault, NoMemory, TooLong, Differs, BadOrder}
 use Rattle.lw_top.specs.declared.words.ScriptCommand.{ScriptCommand}
 use Rattle.lw_top.specs.Bitmaps.{IsBitmapOutcome}
-use Rattle.lw_top.specs.Commands.{Asked, OfScript, OfDemo, OfDisplay, OfBitmap, reads_with, IsTextFor, IsBadOrderFor, IsDifferenceFor}
+use Rattle.lw_top.specs.Commands.{Asked, OfScript, OfDemo, OfDisplay, OfBitmap, reads_with, IsTextFor, IsBadOrderFor}
+use Rattle.lw_top.specs.Commands.{IsDifferenceFor}
 use Rattle.lw_top.specs.Demo.{demo_text}
 use Rattle.lw_top.specs.Displays.{IsDisplayOutcome}
 use Rattle.lw_top.specs.Status.{Says, text_of, input_limit}
@@ -18,8 +19,10 @@ use Rattle.lw_top.specs.Status.{Says, text_of, input_limit}
 -- order that it goes by has a first bad place; or the report behind the script isn't the machine's, from a place on.
 abbrev pub IsOutcomeFor : List Hook → ScriptCommand → List ℕ → ScriptInput → Status → List ℕ → Type 0
 IsOutcomeFor hooks command input script Done text = IsTextFor hooks command input script text
-IsOutcomeFor hooks command input script (BadOrder place) text = IsBadOrderFor command input script place × (text ≡ text_of (BadOrder place))
-IsOutcomeFor hooks command input script (Differs place) text = IsDifferenceFor hooks command input script place × (text ≡ text_of (Differs place))
+IsOutcomeFor hooks command input script (BadOrder place) text =
+    IsBadOrderFor command input script place × (text ≡ text_of (BadOrder place))
+IsOutcomeFor hooks command input script (Differs place) text =
+    IsDifferenceFor hooks command input script place × (text ≡ text_of (Differs place))
 IsOutcomeFor hooks command input script status text = ⊥
 
 -- The line is the first bad one of an input, for its first reason, as a command reads it where so many hooks are handed in.
@@ -34,7 +37,8 @@ IsOutcome hooks command input TooLong text = (input_limit < length input) × (te
 IsOutcome hooks command input (Refused line reason) text =
     (length input ≤ input_limit) × IsBadLineOf hooks command input line reason × (text ≡ text_of (Refused line reason))
 IsOutcome hooks command input status text =
-    (length input ≤ input_limit) × (script : ScriptInput) × SpellsInput (reads_with (length hooks) command) input script × IsOutcomeFor hooks command input script status text
+    (length input ≤ input_limit) × (script : ScriptInput) × SpellsInput (reads_with (length hooks) command) input script
+    × IsOutcomeFor hooks command input script status text
 
 -- These bytes were taken from a source: all that it had left, which were no more than the limit, or one byte more than the limit.
 pub record IsTaken (input : List ℕ) (source : StreamChange) : Type 0 where

@@ -8,8 +8,8 @@ use Rattle.lw_calls.specs.Orders.{is_legal}
 use Rattle.lw_machine.specs.Report.{report}
 use Rattle.lw_apart.specs.TaskSteps.{steps_of, numbered}
 
--- Each number of an order stands for one step, which is that task's; and of each task the steps are its calls, each once and in their
--- order. A task that the plan hasn't got has none.
+-- Each number of an order stands for one step, which is that task's; and of each task the steps are its calls, each once and in
+-- their order. A task that the plan hasn't got has none.
 pub record StandForCalls (plan : Plan) (order : List ℕ) : Type 0 where
   pub each : map (λ (e : Entry). e.task) (entries plan [] order) ≡ order
   pub calls : (task : ℕ) → steps_of task (entries plan [] order) ≡ numbered task 0 (task_calls plan task)

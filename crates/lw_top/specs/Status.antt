@@ -2,10 +2,13 @@
 use Rattle.std.specs.Prelude.{◌≡◌, ℕ, ◌⊎◌, List, [], ◌∷◌, ◌++◌, codes}
 use Rattle.lw_io.specs.Streams.{StreamChange, Wrote, WritesPrefix, HasFailed}
 use Rattle.lw_grammar.specs.declared.reason.Reason.{Reason}
-use Rattle.lw_grammar.specs.declared.reason.Reason.TheVariants.{LineTooLong, BadByte, Spacing, Quote, UnknownWord, Misplaced, Form, Range, NoName, DoubleName, Gzz, Group, TooMany, NoHook, HookUsed, Padding, Missing}
+use Rattle.lw_grammar.specs.declared.reason.Reason.TheVariants.{LineTooLong, BadByte, Spacing, Quote, UnknownWord, Misplaced}
+use Rattle.lw_grammar.specs.declared.reason.Reason.TheVariants.{Form, Range, NoName, DoubleName, Gzz, Group, TooMany, NoHook}
+use Rattle.lw_grammar.specs.declared.reason.Reason.TheVariants.{HookUsed, Padding, Missing}
 use Rattle.lw_calls.specs.Written.{line_of, spaced}
 use Rattle.lw_top.specs.declared.status.Status.{Status}
-use Rattle.lw_top.specs.declared.status.Status.TheVariants.{Done, Refused, RefusedOrder, Usage, ReadFault, WriteFault, NoMemory, TooLong, Differs, BadOrder, BadPicture}
+use Rattle.lw_top.specs.declared.status.Status.TheVariants.{Done, Refused, RefusedOrder, Usage, ReadFault, WriteFault, NoMemory}
+use Rattle.lw_top.specs.declared.status.Status.TheVariants.{TooLong, Differs, BadOrder, BadPicture}
 
 -- the exit status of each answer
 abbrev pub number_of : Status → ℕ

@@ -28,8 +28,8 @@ const CALLS: u32 = 500;
 // How many pens the screen has.
 const PENS: u8 = 4;
 
-/// Runs the demo of this number with so many tasks, each on a thread, and tells the gate of each call: writes six lines, which the
-/// two numbers determine. It may wait, and so promises no return.
+/// Runs the demo of this number with so many tasks, each on a thread, and tells the gate of each call: writes six lines, which
+/// the two numbers determine. It may wait, and so promises no return.
 pub fn demo<R: Threads + Wait + Sync, K: Sink, G: Gate + Sync>(
     rt: &R,
     alloc: Global,

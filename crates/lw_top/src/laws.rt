@@ -4,7 +4,8 @@ ghost use Rattle.lw_top.specs.Damage.{TextsTellDamageByHistory};
 ghost use Rattle.lw_top.specs.Laws.{AnswersTell, BitmapsAreDecided, DisplaysAreDecided, OutcomesAreDecided};
 ghost use Rattle.lw_top.specs.Run.{CallsStandOnce, OneTaskHasOneOrder, ReportsTellTheirOrder};
 
-/// In a legal order, and so in the one that a report prints, each task's calls stand once, and in their order, and nothing else does.
+/// In a legal order, and so in the one that a report prints, each task's calls stand once, and in their order, and nothing else
+/// does.
 pub fn calls_stand_once_and_in_order()
     ensures { CallsStandOnce }
 {}
@@ -40,8 +41,8 @@ pub fn answers_tell()
     ensures { AnswersTell }
 {}
 
-/// A report that is due for `run` or `replay` has of each simple layer the damage that is told by the history of the order that it
-/// prints.
+/// A report that is due for `run` or `replay` has of each simple layer the damage that is told by the history of the order that
+/// it prints.
 pub fn texts_tell_damage_by_history()
     ensures { TextsTellDamageByHistory }
 {}

@@ -19,8 +19,8 @@ use std::alloc::{AllocError, Global};
 /// How many columns and rows a bitmap of a script has at most.
 const BITMAP_LIMIT: u32 = 1024;
 
-/// Reads an ILBM file, of at most 1,024 columns and 1,024 rows, from the source to its end, and writes its picture as the lines of a
-/// bitmap of this name in a script, or the text of another answer. It takes no lock, and returns.
+/// Reads an ILBM file, of at most 1,024 columns and 1,024 rows, from the source to its end, and writes its picture as the lines
+/// of a bitmap of this name in a script, or the text of another answer. It takes no lock, and returns.
 pub fn bitmap_cmd<S: Source, K: Sink>(
     alloc: Global,
     name: &str,

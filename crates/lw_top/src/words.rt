@@ -1,7 +1,8 @@
 ghost use Rattle.std.specs.Prelude.{◌≡◌, ◌≤◌, pos, Some, None, IfSome, if◌then◌else◌, option_map, unsigned_abs};
 ghost use Rattle.lw_region.specs.Rectangle.{within};
 ghost use Rattle.lw_grammar.specs.Tokens.{token_of, is_a_name};
-ghost use Rattle.lw_top.specs.Commands.{asked_by, asked_in_a_word, bitmap_of, command_named, command_of, demo_of, number_within, IsInRange};
+ghost use Rattle.lw_top.specs.Commands.{asked_by, asked_in_a_word, bitmap_of, command_named, command_of, demo_of};
+ghost use Rattle.lw_top.specs.Commands.{number_within, IsInRange};
 
 use lw_words::{Token, is_text, token_of};
 

@@ -30,7 +30,8 @@ pub struct Classes {
 
 /// The messages that a window is due after an arrangement, of those for which it `asks`. No refresh is due where it was `asked`
 /// to refresh since its last full refresh, or doesn't care. The clauses speak of changes that an arrangement makes, as one that
-/// doesn't begin and end a window's activity at once, nor gives it another size and leaves its bounds; of other ones they say nothing.
+/// doesn't begin and end a window's activity at once, nor gives it another size and leaves its bounds; of other ones they say
+/// nothing.
 pub fn due(asks: &Classes, nocare: bool, asked: bool, change: &Change) -> Classes
     ensures put { (c : Across) (after : Layer) (w : Window) → Tells c after w asks.now nocare asked change.now
         → listed result ≡ messages_due c after w }

@@ -1,6 +1,7 @@
 ghost use Rattle.std.specs.Prelude.{◌≡◌, false, ◌<◌, ◌&&◌, ◌||◌, ◌==◌, nat_le, OnOk, IsTrue, map, pos, neg_ℤ};
 ghost use Rattle.std.specs.List.{list_all};
-ghost use Rattle.lw_grammar.specs.Tokens.{is_a_letter, is_a_digit, is_in_name, is_a_name, is_above_zero, is_below_zero, is_a_number, cap, capped, value_of_number, without_last, is_a_text, token_of};
+ghost use Rattle.lw_grammar.specs.Tokens.{is_a_letter, is_a_digit, is_in_name, is_a_name, is_above_zero, is_below_zero};
+ghost use Rattle.lw_grammar.specs.Tokens.{is_a_number, cap, capped, value_of_number, without_last, is_a_text, token_of};
 ghost use Rattle.lw_words.specs.Cuts.{targets};
 ghost use Rattle.lw_words.specs.TokenMeaning.{token_meaning};
 
