@@ -1,9 +1,10 @@
 -- Laws of single bytes, bit by bit from the left.
 use Rattle.std.proofs.Common.{◌≡◌, ℕ, ◌+◌, ◌-◌, ◌*◌, ◌/◌, ◌%◌, ◌^◌, ◌<◌, ◌≤◌, ◌==◌, ◌&&◌, nat_lt, nat_le, min, max, sym, if◌then◌else◌, Bool, true, false, List, get_or, bit_and, bit_or, ap, refl, ◌∙◌, ⊎_elim, arith}
-use Rattle.std.specs.Int.{bit_at, w8}
+use mir.Val.{bits}
+use Rattle.std.specs.Int.{Width, bit_at, bit_not, w8}
 use Rattle.std.proofs.lemmas.Bool.{cases_lt}
 use Rattle.std.proofs.lemmas.Bool.Decides.{nat_tests}
-use Rattle.std.proofs.lemmas.Nat.{shr-shr, pow_pos}
+use Rattle.std.proofs.lemmas.Nat.{shr-shr, pow_pos, div-add-mod'}
 use Rattle.std.proofs.lemmas.Nat.Bits.{bit_at-lt, bit_at_ones, bit_at_ones_above, bit_at_not, bit_at_and, bit_at_or, bit_at_cat_low, bit_at_cat_high, bit_at-zero, bit_at_above}
 use Rattle.lw_planes.specs.Row.{bit_of, row_bit}
 use Rattle.lw_planes.specs.Minterm.{minterm_bit}
@@ -36,9 +37,9 @@ bit_at_ones_from first j most low =
     (λ before. let high : 8 ≤ first + (7 - j) = omega arith in bit_at_shr 255 first (7 - j) ∙ bit_at_ones_above 8 (first + (7 - j)) high)
     (λ past. let small : first + (7 - j) < 8 = omega arith in bit_at_shr 255 first (7 - j) ∙ bit_at_ones 8 (first + (7 - j)) small)
 
--- the bits of one byte that another one leaves out
-bit_at_and_not : (a b i : ℕ) → b < 256 → i < 8 → bit_at (bit_and a (255 - b)) i ≡ min (bit_at a i) (1 - bit_at b i)
-bit_at_and_not a b i small low = bit_at_and a (255 - b) i ∙ ap (λ n. min (bit_at a i) n) (bit_at_not w8 b i small low)
+-- the bits of one number that another one leaves out
+bit_at_and_not : (w : Width) (a b i : ℕ) → b < 2 ^ bits w → i < bits w → bit_at (bit_and a (bit_not w b)) i ≡ min (bit_at a i) (1 - bit_at b i)
+bit_at_and_not w a b i small low = bit_at_and a (bit_not w b) i ∙ ap (λ n. min (bit_at a i) n) (bit_at_not w b i small low)
 
 -- ones from one bit on without those from another on are the bits between
 between_bit : (from end base j first last v a b : ℕ) → j < 8 → first ≡ min (from - base) 8 → last ≡ min (end - base) 8 → a ≡ (if nat_lt j first then 0 else 1) → b ≡ (if nat_lt j last then 0 else 1) → v ≡ min a (1 - b) → v ≡ bit_of (nat_le from (base + j) && nat_lt (base + j) end)
@@ -57,18 +58,18 @@ between_bit from end base j first last v a b low is_first is_last is_a is_b is =
 pub bit_at_mask : (from end index first last ones_first ones_last j : ℕ) → ones_last < 256 → j < 8 → first ≡ min (from - 8 * index) 8 → last ≡ min (end - 8 * index) 8 → bit_at ones_first (7 - j) ≡ (if nat_lt j first then 0 else 1) → bit_at ones_last (7 - j) ≡ (if nat_lt j last then 0 else 1) → bit_at (bit_and ones_first (255 - ones_last)) (7 - j) ≡ bit_of (is_between from end (8 * index + j))
 bit_at_mask from end index first last ones_first ones_last j small low is_first is_last a b =
     between_bit from end (8 * index) j first last (bit_at (bit_and ones_first (255 - ones_last)) (7 - j)) (bit_at ones_first (7 - j)) (bit_at ones_last (7 - j)) low is_first is_last a b
-    (bit_at_and_not ones_first ones_last (7 - j) small (omega arith))
+    (bit_at_and_not w8 ones_first ones_last (7 - j) small (omega arith))
 
 -- one bit of what a mask takes from two bytes
 masked_bit : (value old m : ℕ) → value < 2 → old < 2 → m < 2 → max (min value m) (min old (1 - m)) ≡ (if m == 1 then value else old)
 masked_bit value old m a b c = grind (arith, nat_tests)
 
--- a byte whose bits under a mask are those of another
-pub bit_at_picked : (value old mask i : ℕ) → mask < 256 → i < 8 → bit_at (bit_or (bit_and value mask) (bit_and old (255 - mask))) i ≡ (if bit_at mask i == 1 then bit_at value i else bit_at old i)
-bit_at_picked value old mask i small low =
-    bit_at_or (bit_and value mask) (bit_and old (255 - mask)) i ∙
-    (ap (λ n. max n (bit_at (bit_and old (255 - mask)) i)) (bit_at_and value mask i) ∙
-    (ap (λ n. max (min (bit_at value i) (bit_at mask i)) n) (bit_at_and_not old mask i small low) ∙
+-- a number whose bits under a mask are those of another
+pub bit_at_picked : (w : Width) (value old mask i : ℕ) → mask < 2 ^ bits w → i < bits w → bit_at (bit_or (bit_and value mask) (bit_and old (bit_not w mask))) i ≡ (if bit_at mask i == 1 then bit_at value i else bit_at old i)
+bit_at_picked w value old mask i small low =
+    bit_at_or (bit_and value mask) (bit_and old (bit_not w mask)) i ∙
+    (ap (λ n. max n (bit_at (bit_and old (bit_not w mask)) i)) (bit_at_and value mask i) ∙
+    (ap (λ n. max (min (bit_at value i) (bit_at mask i)) n) (bit_at_and_not w old mask i small low) ∙
     masked_bit (bit_at value i) (bit_at old i) (bit_at mask i) (bit_at-lt value i) (bit_at-lt old i) (bit_at-lt mask i)))
 
 -- a choice by a bit that is a truth value
@@ -77,7 +78,7 @@ chosen_by_bit true v m a b is chosen = chosen ∙ ap (λ n. if n == 1 then a els
 chosen_by_bit false v m a b is chosen = chosen ∙ ap (λ n. if n == 1 then a else b) is
 
 -- the low eight bits of a number are its own
-bit_at_low_byte : (n i : ℕ) → i < 8 → bit_at (bit_and n 255) i ≡ bit_at n i
+pub bit_at_low_byte : (n i : ℕ) → i < 8 → bit_at (bit_and n 255) i ≡ bit_at n i
 bit_at_low_byte n i low =
     let one : bit_at 255 i ≡ 1 = bit_at_ones 8 i low in
     let small : bit_at n i < 2 = bit_at-lt n i in
@@ -106,16 +107,44 @@ pair_bit row index shift left right lead j small few begins low is_left is_right
     bit_at_cat_low left 8 right i in_right ∙ rw (bit, byte, ← is_right second))
     (cases_lt (shift + (j - lead)) 8))
 
--- a byte that is shifted to the left has no bits below the shift, and above it those from its lowest on
-bit_at_shl : (a n i : ℕ) → i < 8 → bit_at ((a * 2 ^ n) % 256) i ≡ (if nat_lt i n then 0 else bit_at a (i - n))
-bit_at_shl a n i low =
+-- a number that is cut to so many bits has its own in them
+pub bit_at_cut : (k n i : ℕ) → i < k → bit_at (n % 2 ^ k) i ≡ bit_at n i
+bit_at_cut k n i low = sym (bit_at_cat_low (n / 2 ^ k) k (n % 2 ^ k) i low) ∙ ap (λ m. bit_at m i) (div-add-mod' n (2 ^ k))
+
+-- a number of so many bits that is shifted to the left has no bits below the shift, and above it those from its lowest on
+bit_at_shl : (k a n i : ℕ) → i < k → bit_at ((a * 2 ^ n) % 2 ^ k) i ≡ (if nat_lt i n then 0 else bit_at a (i - n))
+bit_at_shl k a n i low =
     let whole : ℕ = a * 2 ^ n in
-    let split : (whole / 256) * 2 ^ 8 + whole % 256 ≡ whole + 0 = omega arith in
-    let same : bit_at (whole % 256) i ≡ bit_at (whole + 0) i = sym (bit_at_cat_low (whole / 256) 8 (whole % 256) i low) ∙ ap (λ m. bit_at m i) split in
-    same ∙
+    let same : whole ≡ whole + 0 = omega arith in
+    bit_at_cut k whole i low ∙ (ap (λ m. bit_at m i) same ∙
     chosen_below i n (bit_at (whole + 0) i) 0 (bit_at a (i - n))
     (λ below. bit_at_cat_low a n 0 i below ∙ bit_at-zero i)
-    (λ past. bit_at_cat_high a n 0 i (pow_pos n) past)
+    (λ past. bit_at_cat_high a n 0 i (pow_pos n) past))
+
+-- a word that is shifted to the left and then to the right: the bits that are moved
+pub bit_at_moved : (word from to j : ℕ) → to ≤ j → j < 64 → from + (j - to) < 64 → bit_at ((word * 2 ^ from) % 2 ^ 64 / 2 ^ to) (63 - j) ≡ bit_at word (63 - (from + (j - to)))
+bit_at_moved word from to j late low inside =
+    let i : ℕ = to + (63 - j) in
+    let in_word : i < 64 = omega arith in
+    let reached : from ≤ i = omega arith in
+    let place : i - from ≡ 63 - (from + (j - to)) = omega arith in
+    bit_at_shr ((word * 2 ^ from) % 2 ^ 64) to (63 - j) ∙
+    (ge_choice i from (bit_at ((word * 2 ^ from) % 2 ^ 64) i) 0 (bit_at word (i - from)) reached (bit_at_shl 64 word from i in_word) ∙ ap (bit_at word) place)
+
+-- those to the left of them
+pub bit_at_before_moved : (word from to j : ℕ) → j < to → bit_at ((word * 2 ^ from) % 2 ^ 64 / 2 ^ to) (63 - j) ≡ 0
+bit_at_before_moved word from to j early =
+    let small : (word * 2 ^ from) % 2 ^ 64 < 2 ^ 64 = omega arith in
+    let above : 64 ≤ to + (63 - j) = omega arith in
+    bit_at_shr ((word * 2 ^ from) % 2 ^ 64) to (63 - j) ∙ bit_at_above ((word * 2 ^ from) % 2 ^ 64) 64 (to + (63 - j)) small above
+
+-- and those to the right of them
+pub bit_at_after_moved : (word from to j : ℕ) → to ≤ j → j < 64 → 64 ≤ from + (j - to) → bit_at ((word * 2 ^ from) % 2 ^ 64 / 2 ^ to) (63 - j) ≡ 0
+bit_at_after_moved word from to j late low past =
+    let i : ℕ = to + (63 - j) in
+    let in_word : i < 64 = omega arith in
+    let below : i < from = omega arith in
+    bit_at_shr ((word * 2 ^ from) % 2 ^ 64) to (63 - j) ∙ lt_choice i from (bit_at ((word * 2 ^ from) % 2 ^ 64) i) 0 (bit_at word (i - from)) below (bit_at_shl 64 word from i in_word)
 
 -- the greater of two bits of which the second is 0
 max_zero : (a b c : ℕ) → a ≡ c → b ≡ 0 → max a b ≡ c
@@ -140,13 +169,13 @@ bit_at_shifted left right shift j small some few low =
     let reached : shift ≤ i = omega arith in
     let place : i - shift ≡ 7 - (shift + j) = omega arith in
     max_zero first second (bit_at left (7 - (shift + j)))
-    (ge_choice i shift first 0 (bit_at left (i - shift)) reached (bit_at_shl left shift i in_byte) ∙ ap (λ n. bit_at left n) place)
+    (ge_choice i shift first 0 (bit_at left (i - shift)) reached (bit_at_shl 8 left shift i in_byte) ∙ ap (λ n. bit_at left n) place)
     (from_right ∙ bit_at_above right 8 (8 - shift + i) small high))
     (λ past.
     let below : i < shift = omega arith in
     let place : 8 - shift + i ≡ 15 - (shift + j) = omega arith in
     zero_max first second (bit_at right (15 - (shift + j)))
-    (lt_choice i shift first 0 (bit_at left (i - shift)) below (bit_at_shl left shift i in_byte))
+    (lt_choice i shift first 0 (bit_at left (i - shift)) below (bit_at_shl 8 left shift i in_byte))
     (from_right ∙ ap (λ n. bit_at right n) place))
 
 -- a shifted pair of neighbouring bytes of a row

@@ -3,3 +3,5 @@ pub mod RowWriting
 pub mod CopiedBytes
 pub mod PairLaws
 pub mod SpanLaws
+pub mod WordLaws
+pub mod ColumnLaws

@@ -7,6 +7,7 @@ ghost use Rattle.lw_kernels.specs.Kernel.{blit_bit, is_between, is_named, place_
 ghost use Rattle.lw_kernels.specs.Spans.{IsSpan, IsWay};
 
 use crate::bytes::{minterm_byte, shifted};
+use crate::columns::{copy_columns, goes_by_columns};
 use crate::copying::copy_bytes;
 use crate::spans::{Span, span_of};
 use crate::ways::{Way, bits_from, make_way, put_blit, shift_of, way_of};
@@ -63,6 +64,54 @@ fn blit_line(to: &mut [u8], span: Span, source: &[u8], place: usize, minterm: u8
 /// `source_step` bytes for its source. All bits named are in their rows, all rows are in the bytes, and
 /// each other bit of `to` stays as it was.
 pub fn combine_rows(
+    to: &mut [u8],
+    to_step: usize,
+    to_bit: u32,
+    source: &[u8],
+    source_step: usize,
+    source_bit: u32,
+    rows: u32,
+    count: u32,
+    minterm: u8,
+)
+    requires to_inside { to_bit + count ≤ 8 * to_step }
+    requires to_all { rows * to_step ≤ length to.old }
+    requires source_inside { source_bit + count ≤ 8 * source_step }
+    requires source_all { rows * source_step ≤ length source.now }
+    ensures { (y x : ℕ) → x < 8 * to_step → row_bit to.new (place_in to_step y x) ≡ (if nat_lt y rows && is_named to_bit count x
+        then minterm_bit minterm (row_bit source.now (place_in source_step y (source_bit + (x - to_bit))))
+        (row_bit to.old (place_in to_step y x))
+        else row_bit to.old (place_in to_step y x)) }
+{
+    if goes_by_columns(to_step, to_bit, source_step, source_bit, count, minterm) {
+        copy_columns(
+            to,
+            to_step,
+            to_bit,
+            source,
+            source_step,
+            source_bit,
+            rows,
+            count,
+        );
+    } else {
+        combine_spans(
+            to,
+            to_step,
+            to_bit,
+            source,
+            source_step,
+            source_bit,
+            rows,
+            count,
+            minterm,
+        );
+    }
+}
+
+// As `combine_rows`, row by row. A call of its own, as `copy_columns` is.
+#[inline(never)]
+fn combine_spans(
     to: &mut [u8],
     to_step: usize,
     to_bit: u32,

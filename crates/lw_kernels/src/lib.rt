@@ -4,6 +4,7 @@
 #![tactic(auto)]
 
 mod bytes;
+mod columns;
 mod combining;
 mod copying;
 mod filling;
@@ -13,6 +14,7 @@ mod pairs;
 mod spans;
 mod ways;
 mod within;
+mod words;
 
 pub use combining::{COPY_MINTERM, combine, combine_rows};
 pub use filling::{fill, fill_rows};

@@ -26,13 +26,21 @@ pub(crate) fn make_way(copies: bool, whole: bool) -> Way
     Way { copies, whole }
 }
 
+// Whether a minterm is one of a copy.
+#[inline(always)]
+pub(crate) fn is_copy(minterm: u8) -> bool
+    ensures { result ≡ true → bit_and minterm 240 ≡ 192 }
+{
+    minterm & 0xf0 == COPY_MINTERM
+}
+
 // The way of a blit whose sources begin at this bit of their row.
 #[inline(always)]
 pub(crate) fn way_of(minterm: u8, span: Span, place: usize) -> Way
     ensures { IsWay minterm span place result }
 {
     Way {
-        copies: minterm & 0xf0 == COPY_MINTERM,
+        copies: is_copy(minterm),
         whole: place % 8 == span.from % 8,
     }
 }
