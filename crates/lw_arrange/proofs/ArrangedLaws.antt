@@ -1,5 +1,5 @@
 -- What planning makes of LayerInfo stands for what the machine makes of it.
-use Rattle.std.proofs.Common.{◌≡◌, ℕ, ◌<◌, ◌==◌, Bool, true, false, ◌&&◌, List, ◌∷◌, length, Option, Some, None, option_and_then, IsTrue, refl, sym, ap, ◌∙◌, arith}
+use Rattle.std.proofs.Common.{◌≡◌, ℕ, ◌<◌, ◌==◌, Bool, true, false, ◌&&◌, List, ◌∷◌, length, Option, Some, None, IsTrue, refl, sym, ap, ◌∙◌, arith}
 use Rattle.std.specs.Prelude.{if◌then◌else◌}
 use Rattle.std.specs.List.{slice_index_or, slice_set}
 use Rattle.std.proofs.lemmas.Bool.{ltb-true, false≢true}
@@ -17,10 +17,8 @@ use Rattle.lw_machine.specs.Arrangement.{bounds_of, without, put_before, placed,
 use Rattle.lw_machine.proofs.ListSound.{place_same, put_before_same}
 use Rattle.lw_layer.specs.declared.look.Look.{Look}
 use Rattle.lw_stack.specs.Stack.{Stack, bounds_at, IsStack, StandsForInfo}
-use Rattle.lw_arrange.specs.declared.change.Change.{Change}
-use Rattle.lw_arrange.specs.declared.change.Change.TheVariants.{Move, Size, Box}
 use Rattle.lw_arrange.specs.Arranged.{AreOf}
-use Rattle.lw_arrange.specs.Places.{changed_by}
+use Rattle.lw_arrange.specs.AskedBounds.{changed_by}
 use Rattle.lw_arrange.specs.Planning.{is_backdrop_at, changed_bounds, with_new, without_slot, with_order, with_change, with_front, with_back, with_pair, stack_after}
 use Rattle.lw_arrange.proofs.RefusalLaws.{told_backdrop}
 use Rattle.lw_arrange.proofs.StackLaws.{listed_is_slot, stands_without}
@@ -99,20 +97,14 @@ pair_stands d v s other stands = by_test (s == other)
         (ap (λ l. put_before (λ t. t == other) s (without s l)) stands.front_to_back)
 
 -- other bounds of a layer
-changed_is : (change : Change) (b : Option Rectangle)
-    → option_and_then (λ r. Some (changed_by change r)) b ≡ changed_bounds change b
-changed_is change None = refl
-changed_is change (Some r) = refl
-
-change_stands : (d : Desk) (v : Stack) (s : ℕ) (change : Change) → StandsForInfo v (info_part d) → s < length v.bounds
-    → StandsForInfo (with_change v s change) (info_part (change_bounds d s (changed_by change)))
-change_stands d v s change stands low =
+change_stands : (d : Desk) (v : Stack) (s : ℕ) (call : Call) → StandsForInfo v (info_part d) → s < length v.bounds
+    → StandsForInfo (with_change v s call) (info_part (change_bounds d s (changed_by call)))
+change_stands d v s call stands low =
     record {
       front_to_back = stands.front_to_back;
       bounds =
-          set_is d v s (option_and_then (λ r. Some (changed_by change r)) (d.bounds s))
-          (changed_bounds change (bounds_at v.bounds s)) stands low
-          (ap (option_and_then (λ r. Some (changed_by change r))) (stands.bounds s) ∙ changed_is change (bounds_at v.bounds s));
+          set_is d v s (changed_bounds call (d.bounds s)) (changed_bounds call (bounds_at v.bounds s)) stands low
+          (ap (changed_bounds call) (stands.bounds s));
       active = stands.active;
     }
 
@@ -132,11 +124,11 @@ after_stands d v looks fresh task (ToFront slot) ok all fits are = front_stands 
 after_stands d v looks fresh task (ToBack slot) ok all fits are = back_stands d v looks fresh (ToBack slot) slot ok are
 after_stands d v looks fresh task (InFrontOf slot other) ok all fits are = pair_stands d v slot other are.info
 after_stands d v looks fresh task (MoveBy slot dx dy) ok all fits are =
-    change_stands d v slot (Move dx dy) are.info (entry_low v slot (coordinates_fit dx dy) ok fits)
+    change_stands d v slot (MoveBy slot dx dy) are.info (entry_low v slot (coordinates_fit dx dy) ok fits)
 after_stands d v looks fresh task (SizeBy slot dw dh) ok all fits are =
-    change_stands d v slot (Size dw dh) are.info (entry_low v slot (coordinates_fit dw dh) ok fits)
+    change_stands d v slot (SizeBy slot dw dh) are.info (entry_low v slot (coordinates_fit dw dh) ok fits)
 after_stands d v looks fresh task (SetBox slot x y w h) ok all fits are =
-    change_stands d v slot (Box x y w h) are.info (entry_low v slot (coordinates_fit x y && (is_extent w && is_extent h)) ok fits)
+    change_stands d v slot (SetBox slot x y w h) are.info (entry_low v slot (coordinates_fit x y && (is_extent w && is_extent h)) ok fits)
 after_stands d v looks fresh task (Activate slot) ok all fits are =
     record { front_to_back = are.info.front_to_back; bounds = are.info.bounds; active = refl }
 after_stands d v looks fresh task call ok all fits are = absurd (false≢true all)

@@ -27,8 +27,6 @@ use Rattle.lw_stack.specs.Stack.{Stack, bounds_at, top_in, StandsForInfo}
 use Rattle.lw_stack.specs.Laws.{DifferAt}
 use Rattle.lw_stack.proofs.FirstLaws.{top_elsewhere as other_elsewhere}
 use Rattle.lw_stack.proofs.ListLaws.{shown_is_top}
-use Rattle.lw_arrange.specs.declared.change.Change.{Change}
-use Rattle.lw_arrange.specs.declared.change.Change.TheVariants.{Move, Size, Box}
 use Rattle.lw_arrange.specs.Planning.{is_backdrop_at, with_new, without_slot, with_order, with_front, with_back, with_pair, with_change, changed_bounds, stack_after}
 use Rattle.lw_arrange.specs.Arrangements.{ArrangementView}
 use Rattle.lw_arrange.specs.Areas.{slot_arranged, slot_has, IsAreaOf, HasArea, is_visible, IsShownElsewhere}
@@ -103,9 +101,9 @@ pair_differs v s other = by_test (s == other)
     by_test true = record { sizes = refl; order = refl; others = λ t e. refl }
     by_test false = put_differs v (λ t. t == other) s
 
-change_differs : (v : Stack) (s : ℕ) (change : Change) → DifferAt s v (with_change v s change)
-change_differs v s change =
-    record { sizes = refl; order = refl; others = others_stay v.bounds s (changed_bounds change (bounds_at v.bounds s)) }
+change_differs : (v : Stack) (s : ℕ) (call : Call) → DifferAt s v (with_change v s call)
+change_differs v s call =
+    record { sizes = refl; order = refl; others = others_stay v.bounds s (changed_bounds call (bounds_at v.bounds s)) }
 
 -- the places of the screen that the bounds of a slot have in the one list or in the other
 abbrev in_either : Stack → Stack → Option ℕ → ℤ → ℤ → Bool
@@ -126,11 +124,11 @@ after_elsewhere v looks (ToBack slot) x y outside =
 after_elsewhere v looks (InFrontOf slot other) x y outside =
     other_elsewhere slot v (with_pair v slot other) x y (pair_differs v slot other) outside
 after_elsewhere v looks (MoveBy slot dx dy) x y outside =
-    other_elsewhere slot v (with_change v slot (Move dx dy)) x y (change_differs v slot (Move dx dy)) outside
+    other_elsewhere slot v (with_change v slot (MoveBy slot dx dy)) x y (change_differs v slot (MoveBy slot dx dy)) outside
 after_elsewhere v looks (SizeBy slot dw dh) x y outside =
-    other_elsewhere slot v (with_change v slot (Size dw dh)) x y (change_differs v slot (Size dw dh)) outside
+    other_elsewhere slot v (with_change v slot (SizeBy slot dw dh)) x y (change_differs v slot (SizeBy slot dw dh)) outside
 after_elsewhere v looks (SetBox slot a b w h) x y outside =
-    other_elsewhere slot v (with_change v slot (Box a b w h)) x y (change_differs v slot (Box a b w h)) outside
+    other_elsewhere slot v (with_change v slot (SetBox slot a b w h)) x y (change_differs v slot (SetBox slot a b w h)) outside
 after_elsewhere v looks call x y outside = refl
 
 -- the area of a call that moves no layer, and of one that may

@@ -1,4 +1,4 @@
-pub mod PlaceLaws
+pub mod AskedBoundsLaws
 pub mod OrderLaws
 pub mod StackLaws
 pub mod RefusalLaws

@@ -25,9 +25,7 @@ use Rattle.lw_layer.specs.Looks.{owner_of}
 use Rattle.lw_layer.specs.declared.look.Look.{Look}
 use Rattle.lw_stack.specs.Stack.{Stack, bounds_at}
 use Rattle.lw_arrange.specs.Arranged.{IsLookOf, IsTold, AreOf}
-use Rattle.lw_arrange.specs.declared.change.Change.{Change}
-use Rattle.lw_arrange.specs.declared.change.Change.TheVariants.{Move, Size, Box}
-use Rattle.lw_arrange.specs.Places.{may_lie, needs_of, changed_by}
+use Rattle.lw_arrange.specs.AskedBounds.{may_lie, needs_of, changed_by}
 use Rattle.lw_arrange.specs.Planning.{look_is, placed_look, live_at, is_free_at, is_of_other, has_owner, may_change, creation_refused, closing_refused, reordering_refused, pair_refused, change_refused, activation_refused, refused}
 
 -- refusals with equal tests, before equal others
@@ -113,26 +111,26 @@ told_at d v looks fresh call s are low =
     told_placed d s (bounds_at v.bounds s) (slice_index_or looks s None) (are.info.bounds s) (are.looks s low)
 
 -- a change of bounds that a layer may have, by what is told
-change_same : (d : Desk) (v : Stack) (k : Option Look) (s : ℕ) (change : Change) (b : Option Rectangle) → d.sizes ≡ v.sizes
-    → IsTold d s k → may_change v k change b ≡ may_change_bounds d s (changed_by change) b
-change_same d v k s change None e told = refl
-change_same d v k s change (Some r) e told =
-    told_same d s k (λ l. may_lie v.sizes (needs_of l) (changed_by change r))
-    (λ l. layer_may_have_bounds d.sizes l (changed_by change r))
-    (λ l look is. may_same v.sizes l (d.bounds s) look (changed_by change r) is
-    ∙ ap (λ sizes. layer_may_have_bounds sizes l (changed_by change r)) (sym e))
+change_same : (d : Desk) (v : Stack) (k : Option Look) (s : ℕ) (call : Call) (b : Option Rectangle) → d.sizes ≡ v.sizes
+    → IsTold d s k → may_change v k call b ≡ may_change_bounds d s (changed_by call) b
+change_same d v k s call None e told = refl
+change_same d v k s call (Some r) e told =
+    told_same d s k (λ l. may_lie v.sizes (needs_of l) (changed_by call r))
+    (λ l. layer_may_have_bounds d.sizes l (changed_by call r))
+    (λ l look is. may_same v.sizes l (d.bounds s) look (changed_by call r) is
+    ∙ ap (λ sizes. layer_may_have_bounds sizes l (changed_by call r)) (sym e))
     told
 
 -- a change is refused as the machine refuses it
-pub change_is : (d : Desk) (v : Stack) (looks : List (Option Look)) (fresh : Bool) (call : Call) (s : ℕ) (change : Change)
+pub change_is : (d : Desk) (v : Stack) (looks : List (Option Look)) (fresh : Bool) (call : Call) (s : ℕ)
     → AreOf d v looks fresh call → s < v.sizes.slots
-    → change_refused v looks s change ≡ refuse_not_open (d.slot s) (change_refusal d s (changed_by change))
-change_is d v looks fresh call s change are low =
+    → change_refused v looks s call ≡ refuse_not_open (d.slot s) (change_refusal d s (changed_by call))
+change_is d v looks fresh call s are low =
     let k = live_at v looks s in
     let told = told_at d v looks fresh call s are low in
-    let may : may_change v k change (bounds_at v.bounds s) ≡ may_change_bounds d s (changed_by change) (d.bounds s) =
-    change_same d v k s change (bounds_at v.bounds s) are.sizes told
-    ∙ ap (may_change_bounds d s (changed_by change)) (sym (are.info.bounds s)) in
+    let may : may_change v k call (bounds_at v.bounds s) ≡ may_change_bounds d s (changed_by call) (d.bounds s) =
+    change_same d v k s call (bounds_at v.bounds s) are.sizes told
+    ∙ ap (may_change_bounds d s (changed_by call)) (sym (are.info.bounds s)) in
     refuse_same _ _ NotOpen _ _ (ap not (told_live d s k told))
     (refuse_same _ _ Backdrop _ _ (told_backdrop d s k told) (refuse_same _ _ OutOfBounds None None (ap not may) refl))
 
@@ -220,11 +218,11 @@ refused_is_refusal d v looks fresh task (InFrontOf slot other) all fits are =
     pair_is d v looks fresh (InFrontOf slot other) slot other are (ltb-true slot v.sizes.slots parts.0)
     (ltb-true other v.sizes.slots parts.1)
 refused_is_refusal d v looks fresh task (MoveBy slot dx dy) all fits are =
-    change_is d v looks fresh (MoveBy slot dx dy) slot (Move dx dy) are (first_low slot v.sizes.slots (coordinates_fit dx dy) fits)
+    change_is d v looks fresh (MoveBy slot dx dy) slot are (first_low slot v.sizes.slots (coordinates_fit dx dy) fits)
 refused_is_refusal d v looks fresh task (SizeBy slot dw dh) all fits are =
-    change_is d v looks fresh (SizeBy slot dw dh) slot (Size dw dh) are (first_low slot v.sizes.slots (coordinates_fit dw dh) fits)
+    change_is d v looks fresh (SizeBy slot dw dh) slot are (first_low slot v.sizes.slots (coordinates_fit dw dh) fits)
 refused_is_refusal d v looks fresh task (SetBox slot x y w h) all fits are =
-    change_is d v looks fresh (SetBox slot x y w h) slot (Box x y w h) are
+    change_is d v looks fresh (SetBox slot x y w h) slot are
     (first_low slot v.sizes.slots (coordinates_fit x y && (is_extent w && is_extent h)) fits)
 refused_is_refusal d v looks fresh task (Activate slot) all fits are =
     activation_is d v looks fresh (Activate slot) slot are (ltb-true slot v.sizes.slots fits)

@@ -22,10 +22,8 @@ use Rattle.lw_machine.proofs.ListSound.{occurrences_put_before, occurrences_plac
 use Rattle.lw_machine.proofs.ArrangementSound.{unrefused}
 use Rattle.lw_layer.specs.declared.look.Look.{Look}
 use Rattle.lw_stack.specs.Stack.{Stack, bounds_at, IsPlacedOn, IsStack}
-use Rattle.lw_arrange.specs.declared.change.Change.{Change}
-use Rattle.lw_arrange.specs.declared.change.Change.TheVariants.{Move, Size, Box}
-use Rattle.lw_arrange.specs.declared.place.Needs.{Needs}
-use Rattle.lw_arrange.specs.Places.{IsRect, may_lie, needs_of, new_needs, changed_by}
+use Rattle.lw_arrange.specs.declared.asked_bounds.Needs.{Needs}
+use Rattle.lw_arrange.specs.AskedBounds.{IsRect, may_lie, needs_of, new_needs, changed_by}
 use Rattle.lw_arrange.specs.Planning.{look_is, is_backdrop_at, placed_look, live_at, is_free_at, may_change, creation_refused, change_refused, refused, changed_bounds, with_new, without_slot, with_order, with_change, with_front, with_pair, with_activated, stack_after, IsChangeRect, HasNewRect}
 
 -- a slot that isn't refused as not open has bounds
@@ -80,25 +78,25 @@ creation_free v fresh s make framed e =
     (not-true (has_bounds (bounds_at v.bounds s)) free.1, lying_on v.sizes (new_needs make framed) (bounds_of make) (not-false _ second.0))
 
 -- a change that isn't refused
-change_on : (v : Stack) (k : Option Look) (change : Change) (b : Option Rectangle) → may_change v k change b ≡ true
-    → IsPlacedOn v.sizes (changed_bounds change b)
-change_on v k change None may = tt
-change_on v None change (Some r) may = absurd (false≢true may)
-change_on v (Some l) change (Some r) may = lying_on v.sizes (needs_of l) (changed_by change r) may
+change_on : (v : Stack) (k : Option Look) (call : Call) (b : Option Rectangle) → may_change v k call b ≡ true
+    → IsPlacedOn v.sizes (changed_bounds call b)
+change_on v k call None may = tt
+change_on v None call (Some r) may = absurd (false≢true may)
+change_on v (Some l) call (Some r) may = lying_on v.sizes (needs_of l) (changed_by call r) may
 
-change_placed : (v : Stack) (looks : List (Option Look)) (s : ℕ) (change : Change) → change_refused v looks s change ≡ None
-    → IsPlacedOn v.sizes (changed_bounds change (bounds_at v.bounds s))
-change_placed v looks s change e =
+change_placed : (v : Stack) (looks : List (Option Look)) (s : ℕ) (call : Call) → change_refused v looks s call ≡ None
+    → IsPlacedOn v.sizes (changed_bounds call (bounds_at v.bounds s))
+change_placed v looks s call e =
     let k = live_at v looks s in
     let first = unrefused _ NotOpen _ e in
     let second = unrefused (look_is (λ l. l.backdrop) k) Backdrop _ first.1 in
-    let third = unrefused (not (may_change v k change (bounds_at v.bounds s))) OutOfBounds None second.1 in
-    change_on v k change (bounds_at v.bounds s) (not-false _ third.0)
+    let third = unrefused (not (may_change v k call (bounds_at v.bounds s))) OutOfBounds None second.1 in
+    change_on v k call (bounds_at v.bounds s) (not-false _ third.0)
 
-change_rect : (v : Stack) (change : Change) (b : Option Rectangle) → IsPlacedOn v.sizes (changed_bounds change b)
-    → IsChangeRect change b
-change_rect v change None on = tt
-change_rect v change (Some r) on = rect_on v.sizes (changed_by change r) on
+change_rect : (v : Stack) (call : Call) (b : Option Rectangle) → IsPlacedOn v.sizes (changed_bounds call b)
+    → IsChangeRect call b
+change_rect v call None on = tt
+change_rect v call (Some r) on = rect_on v.sizes (changed_by call r) on
 
 -- The bounds that a call gives a layer which isn't refused are those of a rectangle.
 pub new_rect : (v : Stack) (looks : List (Option Look)) (fresh : Bool) (task : ℕ) (call : Call)
@@ -107,11 +105,11 @@ new_rect v looks fresh task (Create slot make) e = rect_on v.sizes (bounds_of ma
 new_rect v looks fresh task (OpenWindow slot make framed nocare asks title) e =
     rect_on v.sizes (bounds_of make) (creation_free v fresh slot make framed e).1
 new_rect v looks fresh task (MoveBy slot dx dy) e =
-    change_rect v (Move dx dy) (bounds_at v.bounds slot) (change_placed v looks slot (Move dx dy) e)
+    change_rect v (MoveBy slot dx dy) (bounds_at v.bounds slot) (change_placed v looks slot (MoveBy slot dx dy) e)
 new_rect v looks fresh task (SizeBy slot dw dh) e =
-    change_rect v (Size dw dh) (bounds_at v.bounds slot) (change_placed v looks slot (Size dw dh) e)
+    change_rect v (SizeBy slot dw dh) (bounds_at v.bounds slot) (change_placed v looks slot (SizeBy slot dw dh) e)
 new_rect v looks fresh task (SetBox slot x y w h) e =
-    change_rect v (Box x y w h) (bounds_at v.bounds slot) (change_placed v looks slot (Box x y w h) e)
+    change_rect v (SetBox slot x y w h) (bounds_at v.bounds slot) (change_placed v looks slot (SetBox slot x y w h) e)
 new_rect v looks fresh task call e = tt
 
 -- the bounds of all slots, with those of one changed
@@ -235,22 +233,22 @@ pair_sound v s other ok has = by_test (s == other)
     by_test false = before_sound v (λ t. t == other) s ok has
 
 -- other bounds of a layer
-changed_has : (change : Change) (b : Option Rectangle) → has_bounds (changed_bounds change b) ≡ has_bounds b
-changed_has change None = refl
-changed_has change (Some r) = refl
+changed_has : (call : Call) (b : Option Rectangle) → has_bounds (changed_bounds call b) ≡ has_bounds b
+changed_has call None = refl
+changed_has call (Some r) = refl
 
-change_sound : (v : Stack) (s : ℕ) (change : Change) → IsStack v → s < length v.bounds
-    → IsPlacedOn v.sizes (changed_bounds change (bounds_at v.bounds s)) → IsStack (with_change v s change)
-change_sound v s change ok low on =
-    with_bounds_sound v v.front_to_back v.active s (changed_bounds change (bounds_at v.bounds s)) ok low on
-    (λ t. count_at s t v.front_to_back (changed_bounds change (bounds_at v.bounds s)) (bounds_at v.bounds t)
+change_sound : (v : Stack) (s : ℕ) (call : Call) → IsStack v → s < length v.bounds
+    → IsPlacedOn v.sizes (changed_bounds call (bounds_at v.bounds s)) → IsStack (with_change v s call)
+change_sound v s call ok low on =
+    with_bounds_sound v v.front_to_back v.active s (changed_bounds call (bounds_at v.bounds s)) ok low on
+    (λ t. count_at s t v.front_to_back (changed_bounds call (bounds_at v.bounds s)) (bounds_at v.bounds t)
     (occurrences t v.front_to_back) (here t) (λ e. ok.listed t))
   where
     here : (t : ℕ) → (t == s) ≡ true
-        → occurrences t v.front_to_back ≡ (if has_bounds (changed_bounds change (bounds_at v.bounds s)) then 1 else 0)
+        → occurrences t v.front_to_back ≡ (if has_bounds (changed_bounds call (bounds_at v.bounds s)) then 1 else 0)
     here t e =
         ok.listed t ∙ ap (λ b. if b then 1 else 0)
-        (ap (λ n. has_bounds (bounds_at v.bounds n)) (eqb-true t s e) ∙ sym (changed_has change (bounds_at v.bounds s)))
+        (ap (λ n. has_bounds (bounds_at v.bounds n)) (eqb-true t s e) ∙ sym (changed_has call (bounds_at v.bounds s)))
 
 -- another active window
 activated_sound : (v : Stack) (s : ℕ) → IsStack v → IsStack (with_activated v s)
@@ -280,13 +278,13 @@ after_sound v looks fresh task (ToBack slot) ok fits e =
     before_sound v (is_backdrop_at looks) slot ok (reordering_bounds v looks slot _ e)
 after_sound v looks fresh task (InFrontOf slot other) ok fits e = pair_sound v slot other ok (reordering_bounds v looks slot _ e)
 after_sound v looks fresh task (MoveBy slot dx dy) ok fits e =
-    change_sound v slot (Move dx dy) ok (entry_low v slot (coordinates_fit dx dy) ok fits)
-    (change_placed v looks slot (Move dx dy) e)
+    change_sound v slot (MoveBy slot dx dy) ok (entry_low v slot (coordinates_fit dx dy) ok fits)
+    (change_placed v looks slot (MoveBy slot dx dy) e)
 after_sound v looks fresh task (SizeBy slot dw dh) ok fits e =
-    change_sound v slot (Size dw dh) ok (entry_low v slot (coordinates_fit dw dh) ok fits)
-    (change_placed v looks slot (Size dw dh) e)
+    change_sound v slot (SizeBy slot dw dh) ok (entry_low v slot (coordinates_fit dw dh) ok fits)
+    (change_placed v looks slot (SizeBy slot dw dh) e)
 after_sound v looks fresh task (SetBox slot x y w h) ok fits e =
-    change_sound v slot (Box x y w h) ok (entry_low v slot (coordinates_fit x y && (is_extent w && is_extent h)) ok fits)
-    (change_placed v looks slot (Box x y w h) e)
+    change_sound v slot (SetBox slot x y w h) ok (entry_low v slot (coordinates_fit x y && (is_extent w && is_extent h)) ok fits)
+    (change_placed v looks slot (SetBox slot x y w h) e)
 after_sound v looks fresh task (Activate slot) ok fits e = activated_sound v slot ok
 after_sound v looks fresh task call ok fits e = ok

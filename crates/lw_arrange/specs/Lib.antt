@@ -1,7 +1,7 @@
 pub mod Arrangements
 pub mod Counted
 pub mod Arranged
-pub mod Places
+pub mod AskedBounds
 pub mod Planning
 pub mod Steps
 pub mod Prepared

@@ -1,7 +1,8 @@
 -- For private contracts.
 -- What planning makes of LayerInfo and of what is told of each slot, with no desk at hand.
 -- Its proofs show that this is what the machine's definitions say of a desk for which they stand.
-use Rattle.std.specs.Prelude.{ℕ, ◌==◌, Bool, true, false, not, ◌&&◌, if◌then◌else◌, List, ◌∷◌, Option, Some, None}
+use Rattle.std.specs.Prelude.{ℕ, ◌==◌, Bool, true, false, not, ◌&&◌, if◌then◌else◌, List, ◌∷◌}
+use Rattle.std.specs.Prelude.{Option, Some, None, option_and_then}
 use Rattle.std.specs.List.{slice_index_or, slice_set}
 use Rattle.lw_region.specs.Rectangle.{Rectangle}
 use Rattle.lw_calls.specs.declared.make.Make.{Make}
@@ -15,9 +16,7 @@ use Rattle.lw_machine.specs.Arrangement.{bounds_of, without, put_before, placed,
 use Rattle.lw_machine.specs.Step.{refuse}
 use Rattle.lw_layer.specs.declared.look.Look.{Look}
 use Rattle.lw_stack.specs.Stack.{Stack, bounds_at}
-use Rattle.lw_arrange.specs.declared.change.Change.{Change}
-use Rattle.lw_arrange.specs.declared.change.Change.TheVariants.{Move, Size, Box}
-use Rattle.lw_arrange.specs.Places.{IsRect, changed_by, may_lie, needs_of, new_needs}
+use Rattle.lw_arrange.specs.AskedBounds.{IsRect, changed_by, may_lie, needs_of, new_needs}
 
 -- there is a look, and this holds of it
 abbrev pub look_is : (Look → Bool) → Option Look → Bool
@@ -63,10 +62,10 @@ unless_window k next = refuse (not (look_is (λ l. has_owner l.owner) k)) NotWin
 abbrev pub unless_no_backdrop : Option Look → Option Reply → Option Reply
 unless_no_backdrop k next = refuse (look_is (λ l. l.backdrop) k) Backdrop next
 
--- a slot's bounds, changed so, are such as its layer may have
-abbrev pub may_change : Stack → Option Look → Change → Option Rectangle → Bool
-may_change v k change None = false
-may_change v k change (Some r) = look_is (λ l. may_lie v.sizes (needs_of l) (changed_by change r)) k
+-- a slot's bounds, changed by the call, are such as its layer may have
+abbrev pub may_change : Stack → Option Look → Call → Option Rectangle → Bool
+may_change v k call None = false
+may_change v k call (Some r) = look_is (λ l. may_lie v.sizes (needs_of l) (changed_by call r)) k
 
 abbrev pub creation_refused : Stack → Bool → ℕ → Make → Bool → Option Reply
 creation_refused v fresh slot make framed =
@@ -84,10 +83,10 @@ pair_refused v looks slot other =
     unless_live (live_at v looks slot) (unless_live (live_at v looks other)
     (unless_no_backdrop (live_at v looks slot) (unless_no_backdrop (live_at v looks other) None)))
 
-abbrev pub change_refused : Stack → List (Option Look) → ℕ → Change → Option Reply
-change_refused v looks slot change =
+abbrev pub change_refused : Stack → List (Option Look) → ℕ → Call → Option Reply
+change_refused v looks slot call =
     unless_live (live_at v looks slot) (unless_no_backdrop (live_at v looks slot)
-    (refuse (not (may_change v (live_at v looks slot) change (bounds_at v.bounds slot))) OutOfBounds None))
+    (refuse (not (may_change v (live_at v looks slot) call (bounds_at v.bounds slot))) OutOfBounds None))
 
 abbrev pub activation_refused : Stack → List (Option Look) → ℕ → Option Reply
 activation_refused v looks slot = unless_live (live_at v looks slot) (unless_window (live_at v looks slot) None)
@@ -100,16 +99,15 @@ refused v looks fresh task (Close slot) = closing_refused v looks task slot
 refused v looks fresh task (ToFront slot) = reordering_refused v looks slot
 refused v looks fresh task (ToBack slot) = reordering_refused v looks slot
 refused v looks fresh task (InFrontOf slot other) = pair_refused v looks slot other
-refused v looks fresh task (MoveBy slot dx dy) = change_refused v looks slot (Move dx dy)
-refused v looks fresh task (SizeBy slot dw dh) = change_refused v looks slot (Size dw dh)
-refused v looks fresh task (SetBox slot x y w h) = change_refused v looks slot (Box x y w h)
+refused v looks fresh task (MoveBy slot dx dy) = change_refused v looks slot (MoveBy slot dx dy)
+refused v looks fresh task (SizeBy slot dw dh) = change_refused v looks slot (SizeBy slot dw dh)
+refused v looks fresh task (SetBox slot x y w h) = change_refused v looks slot (SetBox slot x y w h)
 refused v looks fresh task (Activate slot) = activation_refused v looks slot
 refused v looks fresh task call = None
 
--- the bounds that a change makes of some, if there are any
-abbrev pub changed_bounds : Change → Option Rectangle → Option Rectangle
-changed_bounds change None = None
-changed_bounds change (Some r) = Some (changed_by change r)
+-- the bounds that a call makes of some, if there are any
+abbrev pub changed_bounds : Call → Option Rectangle → Option Rectangle
+changed_bounds call = option_and_then (λ r. Some (changed_by call r))
 
 -- LayerInfo with a new layer, without one, and with another order, other bounds or another active window
 abbrev pub with_new : Stack → List (Option Look) → ℕ → Make → Stack
@@ -130,9 +128,9 @@ without_slot v slot =
 abbrev pub with_order : Stack → List ℕ → Stack
 with_order v order = record v { front_to_back = order }
 
-abbrev pub with_change : Stack → ℕ → Change → Stack
-with_change v slot change =
-    record v { bounds = slice_set v.bounds slot (changed_bounds change (bounds_at v.bounds slot)) }
+abbrev pub with_change : Stack → ℕ → Call → Stack
+with_change v slot call =
+    record v { bounds = slice_set v.bounds slot (changed_bounds call (bounds_at v.bounds slot)) }
 
 abbrev pub with_front : Stack → ℕ → Stack
 with_front v slot = with_order v (slot ∷ without slot v.front_to_back)
@@ -155,22 +153,22 @@ stack_after v looks (Close slot) = without_slot v slot
 stack_after v looks (ToFront slot) = with_front v slot
 stack_after v looks (ToBack slot) = with_back v looks slot
 stack_after v looks (InFrontOf slot other) = with_pair v slot other
-stack_after v looks (MoveBy slot dx dy) = with_change v slot (Move dx dy)
-stack_after v looks (SizeBy slot dw dh) = with_change v slot (Size dw dh)
-stack_after v looks (SetBox slot x y w h) = with_change v slot (Box x y w h)
+stack_after v looks (MoveBy slot dx dy) = with_change v slot (MoveBy slot dx dy)
+stack_after v looks (SizeBy slot dw dh) = with_change v slot (SizeBy slot dw dh)
+stack_after v looks (SetBox slot x y w h) = with_change v slot (SetBox slot x y w h)
 stack_after v looks (Activate slot) = with_activated v slot
 stack_after v looks call = v
 
--- what a change makes of some bounds are those of a rectangle
-abbrev pub IsChangeRect : Change → Option Rectangle → Type 0
-IsChangeRect change None = Unit {0}
-IsChangeRect change (Some r) = IsRect (changed_by change r)
+-- what a call makes of some bounds are those of a rectangle
+abbrev pub IsChangeRect : Call → Option Rectangle → Type 0
+IsChangeRect call None = Unit {0}
+IsChangeRect call (Some r) = IsRect (changed_by call r)
 
 -- the bounds that a call gives a layer, if it gives some, are those of a rectangle
 abbrev pub HasNewRect : Stack → Call → Type 0
 HasNewRect v (Create slot make) = IsRect (bounds_of make)
 HasNewRect v (OpenWindow slot make framed nocare asks title) = IsRect (bounds_of make)
-HasNewRect v (MoveBy slot dx dy) = IsChangeRect (Move dx dy) (bounds_at v.bounds slot)
-HasNewRect v (SizeBy slot dw dh) = IsChangeRect (Size dw dh) (bounds_at v.bounds slot)
-HasNewRect v (SetBox slot x y w h) = IsChangeRect (Box x y w h) (bounds_at v.bounds slot)
+HasNewRect v (MoveBy slot dx dy) = IsChangeRect (MoveBy slot dx dy) (bounds_at v.bounds slot)
+HasNewRect v (SizeBy slot dw dh) = IsChangeRect (SizeBy slot dw dh) (bounds_at v.bounds slot)
+HasNewRect v (SetBox slot x y w h) = IsChangeRect (SetBox slot x y w h) (bounds_at v.bounds slot)
 HasNewRect v call = Unit {0}

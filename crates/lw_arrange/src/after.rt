@@ -4,13 +4,12 @@ ghost use Rattle.lw_calls.specs.Touches.{is_arrangement};
 ghost use Rattle.lw_calls.specs.Limits.{call_fits};
 ghost use Rattle.lw_machine.specs.Arrangement.{bounds_of, active_without, without};
 ghost use Rattle.lw_stack.specs.Stack.{bounds_at, stack_of};
-ghost use Rattle.lw_arrange.specs.Places.{IsRect, change_fits, make_spans};
+ghost use Rattle.lw_arrange.specs.AskedBounds.{IsRect, change_fits, make_spans};
 ghost use Rattle.lw_arrange.specs.Planning.{with_new, without_slot, with_front, with_back, with_pair, with_change};
 ghost use Rattle.lw_arrange.specs.Planning.{with_activated, with_order, stack_after, changed_bounds, IsChangeRect, HasNewRect};
 
-use crate::change::Change;
+use crate::asked_bounds::{changed_by, edges_of_box, rect_of};
 use crate::order::{place_new, put_before_backdrops, put_before_one, put_first, without};
-use crate::place::{edges_of_box, rect_of};
 use lw_calls::{Call, Make};
 use lw_layer::Look;
 use lw_region::Rect;
@@ -37,29 +36,9 @@ pub(crate) fn after(
         Call::ToFront { slot } => with_front(alloc, info, *slot),
         Call::ToBack { slot } => with_back(alloc, info, looks, *slot),
         Call::InFrontOf { slot, other } => with_pair(alloc, info, *slot, *other),
-        Call::MoveBy { slot, dx, dy } => with_change(
-            alloc,
-            info,
-            *slot,
-            Change::Move { dx: *dx, dy: *dy },
-        ),
-        Call::SizeBy { slot, dw, dh } => with_change(
-            alloc,
-            info,
-            *slot,
-            Change::Size { dw: *dw, dh: *dh },
-        ),
-        Call::SetBox { slot, x, y, w, h } => with_change(
-            alloc,
-            info,
-            *slot,
-            Change::Box {
-                x: *x,
-                y: *y,
-                w: *w,
-                h: *h,
-            },
-        ),
+        Call::MoveBy { slot, .. } | Call::SizeBy { slot, .. } | Call::SetBox { slot, .. } => {
+            with_change(alloc, info, *slot, call)
+        }
         Call::Activate { slot } => with_activated(alloc, info, *slot),
         // No other call arranges layers.
         _ => unreachable!(),
@@ -167,33 +146,28 @@ fn with_order(alloc: Global, info: &Info, order: Vec<u32>) -> Result<InfoDraft, 
     })
 }
 
-fn with_change(
-    alloc: Global,
-    info: &Info,
-    slot: u32,
-    change: Change,
-) -> Result<InfoDraft, AllocError>
+fn with_change(alloc: Global, info: &Info, slot: u32, call: &Call) -> Result<InfoDraft, AllocError>
     requires low { slot < info.now.sizes.slots }
-    requires fits { IsTrue (change_fits change) }
-    requires placed { IsChangeRect change (bounds_at info.now.bounds slot) }
-    ensures { IfOk result (λ draft. stack_of info.now.sizes draft ≡ with_change info.now slot change) }
+    requires fits { IsTrue (change_fits call.now) }
+    requires placed { IsChangeRect call.now (bounds_at info.now.bounds slot) }
+    ensures { IfOk result (λ draft. stack_of info.now.sizes draft ≡ with_change info.now slot call.now) }
 {
     Ok(InfoDraft {
         order: order_of(alloc, info)?,
-        bounds: bounds_with(alloc, info, slot, changed_bounds(info, slot, change))?,
+        bounds: bounds_with(alloc, info, slot, changed_bounds(info, slot, call))?,
         active: info.active(),
         desktop: Vec::new(alloc),
     })
 }
 
-fn changed_bounds(info: &Info, slot: u32, change: Change) -> Option<Rect>
-    requires fits { IsTrue (change_fits change) }
-    requires placed { IsChangeRect change (bounds_at info.now.bounds slot) }
-    ensures { result ≡ changed_bounds change (bounds_at info.now.bounds slot) }
+fn changed_bounds(info: &Info, slot: u32, call: &Call) -> Option<Rect>
+    requires fits { IsTrue (change_fits call.now) }
+    requires placed { IsChangeRect call.now (bounds_at info.now.bounds slot) }
+    ensures { result ≡ changed_bounds call.now (bounds_at info.now.bounds slot) }
 {
     match info.bounds(slot) {
         None => None,
-        Some(bounds) => rect_of(&change.of(&bounds)),
+        Some(bounds) => rect_of(&changed_by(call, &bounds)),
     }
 }
 

@@ -4,7 +4,7 @@
 
 mod after;
 mod arrangement;
-mod change;
+mod asked_bounds;
 mod copied;
 mod desktop;
 mod exchange;
@@ -12,7 +12,6 @@ mod gaining;
 mod laws;
 mod order;
 mod pieces;
-mod place;
 mod plan;
 mod prepared_info;
 mod preparing;

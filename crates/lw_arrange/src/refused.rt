@@ -3,12 +3,11 @@ ghost use Rattle.lw_calls.specs.Touches.{is_arrangement};
 ghost use Rattle.lw_calls.specs.Limits.{call_fits};
 ghost use Rattle.lw_machine.specs.Arrangement.{bounds_of};
 ghost use Rattle.lw_stack.specs.Stack.{bounds_at};
-ghost use Rattle.lw_arrange.specs.Places.{change_fits, may_lie, needs_of, new_needs, make_spans};
+ghost use Rattle.lw_arrange.specs.AskedBounds.{change_fits, may_lie, needs_of, new_needs, make_spans};
 ghost use Rattle.lw_arrange.specs.Planning.{live_at, is_free_at, is_of_other, may_change, creation_refused, closing_refused};
 ghost use Rattle.lw_arrange.specs.Planning.{reordering_refused, pair_refused, change_refused, activation_refused, refused};
 
-use crate::change::Change;
-use crate::place::{Needs, edges_of_box, may_have};
+use crate::asked_bounds::{Needs, changed_by, edges_of_box, may_have};
 use lw_calls::{Call, Make, Reply};
 use lw_layer::Look;
 use lw_stack::Info;
@@ -37,29 +36,9 @@ pub(crate) fn refused(
         Call::Close { slot } => closing_refused(info, looks, task, *slot),
         Call::ToFront { slot } | Call::ToBack { slot } => reordering_refused(info, looks, *slot),
         Call::InFrontOf { slot, other } => pair_refused(info, looks, *slot, *other),
-        Call::MoveBy { slot, dx, dy } => change_refused(
-            info,
-            looks,
-            *slot,
-            Change::Move { dx: *dx, dy: *dy },
-        ),
-        Call::SizeBy { slot, dw, dh } => change_refused(
-            info,
-            looks,
-            *slot,
-            Change::Size { dw: *dw, dh: *dh },
-        ),
-        Call::SetBox { slot, x, y, w, h } => change_refused(
-            info,
-            looks,
-            *slot,
-            Change::Box {
-                x: *x,
-                y: *y,
-                w: *w,
-                h: *h,
-            },
-        ),
+        Call::MoveBy { slot, .. } | Call::SizeBy { slot, .. } | Call::SetBox { slot, .. } => {
+            change_refused(info, looks, *slot, call)
+        }
         Call::Activate { slot } => activation_refused(info, looks, *slot),
         // No other call arranges layers.
         _ => unreachable!(),
@@ -174,28 +153,28 @@ fn pair_refused(info: &Info, looks: &[Option<Look>], slot: u32, other: u32) -> O
     None
 }
 
-fn change_refused(info: &Info, looks: &[Option<Look>], slot: u32, change: Change) -> Option<Reply>
+fn change_refused(info: &Info, looks: &[Option<Look>], slot: u32, call: &Call) -> Option<Reply>
     requires low { slot < info.now.sizes.slots }
-    requires fits { IsTrue (change_fits change) }
+    requires fits { IsTrue (change_fits call.now) }
     requires many { length looks.now ≡ info.now.sizes.slots }
-    ensures { result ≡ change_refused info.now looks.now slot change }
+    ensures { result ≡ change_refused info.now looks.now slot call.now }
 {
     let refusal = reordering_refused(info, looks, slot);
     if refusal.is_some() {
         return refusal;
     }
-    if !may_change(info, looks, slot, change) {
+    if !may_change(info, looks, slot, call) {
         return Some(Reply::OutOfBounds);
     }
     None
 }
 
-/// Whether a slot's bounds, changed so, are such as its layer may have.
-fn may_change(info: &Info, looks: &[Option<Look>], slot: u32, change: Change) -> bool
+/// Whether a slot's bounds, changed by the call, are such as its layer may have.
+fn may_change(info: &Info, looks: &[Option<Look>], slot: u32, call: &Call) -> bool
     requires low { slot < info.now.sizes.slots }
-    requires fits { IsTrue (change_fits change) }
+    requires fits { IsTrue (change_fits call.now) }
     requires many { length looks.now ≡ info.now.sizes.slots }
-    ensures { result ≡ may_change info.now (live_at info.now looks.now slot) change (bounds_at info.now.bounds slot) }
+    ensures { result ≡ may_change info.now (live_at info.now looks.now slot) call.now (bounds_at info.now.bounds slot) }
 {
     let Some(bounds) = info.bounds(slot) else {
         return false;
@@ -203,7 +182,7 @@ fn may_change(info: &Info, looks: &[Option<Look>], slot: u32, change: Change) ->
     let Some(look) = looks[slot as usize] else {
         return false;
     };
-    may_have(info.sizes(), &needs_of(&look), &change.of(&bounds))
+    may_have(info.sizes(), &needs_of(&look), &changed_by(call, &bounds))
 }
 
 fn needs_of(look: &Look) -> Needs

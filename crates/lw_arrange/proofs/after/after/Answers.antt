@@ -2,7 +2,7 @@ use Rattle.std.proofs.Common.{◌&&◌, IsTrue, nat_lt, subst}
 use Rattle.std.proofs.lemmas.Bool.{and_parts}
 use Rattle.lw_calls.specs.Limits.{call_fits, make_fits, window_fits}
 use Rattle.lw_calls.specs.declared.call.Call.{Call}
-use Rattle.lw_arrange.proofs.PlaceLaws.{spans_of_make}
+use Rattle.lw_arrange.proofs.AskedBoundsLaws.{spans_of_make}
 use Rattle.lw_arrange.proofs.after.after.Goals as goal
 
 pub with_new-requires-in-OpenWindow-clause-spans : goal.with_new-requires-in-OpenWindow-clause-spans

@@ -1,6 +1,6 @@
 use Rattle.std.proofs.Common.{subst, sym, ◌∙◌}
-use Rattle.lw_arrange.specs.Places.{IsRect}
-use Rattle.lw_arrange.proofs.PlaceLaws.{read_bounds}
+use Rattle.lw_arrange.specs.AskedBounds.{IsRect}
+use Rattle.lw_arrange.proofs.AskedBoundsLaws.{read_bounds}
 use Rattle.lw_arrange.proofs.after.new_bounds.Goals as goal
 
 pub rect_of-requires : goal.rect_of-requires

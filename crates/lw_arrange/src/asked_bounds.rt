@@ -2,12 +2,12 @@ ghost use Rattle.std.specs.Prelude.{◌≡◌, ◌≤◌, ◌&&◌, true, Some, 
 ghost use Rattle.lw_machine.specs.Shapes.{box_at};
 ghost use Rattle.lw_calls.specs.Limits.{is_coordinate, coordinates_fit};
 ghost use Rattle.lw_machine.specs.Arrangement.{is_on_screen, has_coordinates, is_no_larger, may_lie_at, is_at_least};
-ghost use Rattle.lw_machine.specs.Arrangement.{portion_fits};
-ghost use Rattle.lw_arrange.specs.Places.{rectangle_of, axis_on, axis_within, axis_has, axis_shows, frame_has_room};
-ghost use Rattle.lw_arrange.specs.Places.{bits_suffice, may_lie, span_fits, IsRect};
-ghost use Rattle.lw_region.specs.Rectangle.{IsWord};
+ghost use Rattle.lw_machine.specs.Arrangement.{portion_fits, sized_by};
+ghost use Rattle.lw_arrange.specs.AskedBounds.{rectangle_of, axis_on, axis_within, axis_has, axis_shows, frame_has_room};
+ghost use Rattle.lw_arrange.specs.AskedBounds.{bits_suffice, may_lie, span_fits, changed_by, change_fits, IsRect};
+ghost use Rattle.lw_region.specs.Rectangle.{IsWord, moved_by};
 
-use lw_calls::{Kind, Sizes};
+use lw_calls::{Call, Kind, Sizes};
 use lw_region::Rect;
 
 /// Bounds that a call asks for, wherever they lie. All four are inclusive.
@@ -54,6 +54,52 @@ fn last_place(from: i32, count: i32) -> i32
     ensures { result ≡ (from +ℤ count) -ℤ pos 1 }
 {
     from + count - 1
+}
+
+/// The bounds that a call makes of its layer's (the manual's MoveLayer, SizeLayer and MoveSizeLayer).
+pub(crate) fn changed_by(call: &Call, bounds: &Rect) -> Edges
+    requires { IsTrue (change_fits call.now) }
+    ensures { rectangle_of result ≡ changed_by call.now bounds.now }
+{
+    match *call {
+        Call::MoveBy { dx, dy, .. } => moved(bounds, dx, dy),
+        Call::SizeBy { dw, dh, .. } => sized(bounds, dw, dh),
+        Call::SetBox { x, y, w, h, .. } => edges_of_box(x, y, w, h),
+        // No other call changes bounds.
+        _ => unreachable!(),
+    }
+}
+
+fn moved(bounds: &Rect, dx: i32, dy: i32) -> Edges
+    requires { IsTrue (coordinates_fit dx dy) }
+    ensures { rectangle_of result ≡ moved_by bounds.now dx dy }
+{
+    Edges {
+        min_x: edge_moved(bounds.min_x(), dx),
+        min_y: edge_moved(bounds.min_y(), dy),
+        max_x: edge_moved(bounds.max_x(), dx),
+        max_y: edge_moved(bounds.max_y(), dy),
+    }
+}
+
+fn sized(bounds: &Rect, dw: i32, dh: i32) -> Edges
+    requires { IsTrue (coordinates_fit dw dh) }
+    ensures { rectangle_of result ≡ sized_by bounds.now dw dh }
+{
+    Edges {
+        min_x: i32::from(bounds.min_x()),
+        min_y: i32::from(bounds.min_y()),
+        max_x: edge_moved(bounds.max_x(), dw),
+        max_y: edge_moved(bounds.max_y(), dh),
+    }
+}
+
+#[tactic(auto, using(std::proofs::lemmas::Int::ints), unfolding(lw_region::specs::Rectangle::within))]
+fn edge_moved(edge: i16, by: i32) -> i32
+    requires { IsTrue (is_coordinate by) }
+    ensures { result ≡ edge +ℤ by }
+{
+    i32::from(edge) + by
 }
 
 /// Whether a layer with such needs may have these bounds: it lies where a layer may, it has a column and a row, a framed window
@@ -104,7 +150,7 @@ fn is_coordinate(place: i32) -> bool
 }
 
 /// Whether there are no more columns and rows than the screen has.
-#[tactic(auto, unfolding(lw_machine::specs::Arrangement::is_no_larger, crate::specs::Places::axis_within))]
+#[tactic(auto, unfolding(lw_machine::specs::Arrangement::is_no_larger, crate::specs::AskedBounds::axis_within))]
 fn is_no_larger(sizes: &Sizes, edges: &Edges) -> bool
     ensures { result ≡ is_no_larger sizes.now (rectangle_of edges.now) }
 {
@@ -112,7 +158,7 @@ fn is_no_larger(sizes: &Sizes, edges: &Edges) -> bool
         && is_axis_within(edges.min_y, edges.max_y, sizes.height)
 }
 
-#[tactic(auto, using(std::proofs::lemmas::Int::ints), unfolding(crate::specs::Places::axis_within))]
+#[tactic(auto, using(std::proofs::lemmas::Int::ints), unfolding(crate::specs::AskedBounds::axis_within))]
 fn is_axis_within(low: i32, high: i32, limit: u32) -> bool
     ensures { result ≡ axis_within low high limit }
 {
@@ -120,7 +166,7 @@ fn is_axis_within(low: i32, high: i32, limit: u32) -> bool
 }
 
 /// Whether all pixels lie on the screen.
-#[tactic(auto, unfolding(lw_machine::specs::Arrangement::is_on_screen, crate::specs::Places::axis_on))]
+#[tactic(auto, unfolding(lw_machine::specs::Arrangement::is_on_screen, crate::specs::AskedBounds::axis_on))]
 fn is_on(sizes: &Sizes, edges: &Edges) -> bool
     ensures { result ≡ is_on_screen sizes.now (rectangle_of edges.now) }
 {
@@ -128,7 +174,7 @@ fn is_on(sizes: &Sizes, edges: &Edges) -> bool
         && is_axis_on(edges.min_y, edges.max_y, sizes.height)
 }
 
-#[tactic(auto, using(std::proofs::lemmas::Int::ints), unfolding(crate::specs::Places::axis_on))]
+#[tactic(auto, using(std::proofs::lemmas::Int::ints), unfolding(crate::specs::AskedBounds::axis_on))]
 fn is_axis_on(low: i32, high: i32, limit: u32) -> bool
     ensures { result ≡ axis_on low high limit }
 {
@@ -139,14 +185,14 @@ fn is_axis_on(low: i32, high: i32, limit: u32) -> bool
 }
 
 /// Whether there are so many columns and rows.
-#[tactic(auto, unfolding(lw_machine::specs::Arrangement::is_at_least, crate::specs::Places::axis_has))]
+#[tactic(auto, unfolding(lw_machine::specs::Arrangement::is_at_least, crate::specs::AskedBounds::axis_has))]
 fn has_at_least(w: i32, h: i32, edges: &Edges) -> bool
     ensures { result ≡ is_at_least w h (rectangle_of edges.now) }
 {
     axis_has_at_least(w, edges.min_x, edges.max_x) && axis_has_at_least(h, edges.min_y, edges.max_y)
 }
 
-#[tactic(auto, using(std::proofs::lemmas::Int::ints), unfolding(crate::specs::Places::axis_has))]
+#[tactic(auto, using(std::proofs::lemmas::Int::ints), unfolding(crate::specs::AskedBounds::axis_has))]
 fn axis_has_at_least(count: i32, low: i32, high: i32) -> bool
     ensures { result ≡ axis_has count low high }
 {
@@ -183,7 +229,7 @@ fn fits_bits(needs: &Needs, edges: &Edges) -> bool
     }
 }
 
-#[tactic(auto, unfolding(lw_machine::specs::Arrangement::portion_fits, crate::specs::Places::axis_shows))]
+#[tactic(auto, unfolding(lw_machine::specs::Arrangement::portion_fits, crate::specs::AskedBounds::axis_shows))]
 fn shows_bits(needs: &Needs, edges: &Edges) -> bool
     ensures { result ≡ portion_fits needs.now.scroll_x needs.now.scroll_y needs.now.bits_w needs.now.bits_h
         (rectangle_of edges.now) }
@@ -192,7 +238,7 @@ fn shows_bits(needs: &Needs, edges: &Edges) -> bool
         && is_axis_shown(needs.scroll_y, edges.min_y, edges.max_y, needs.bits_h)
 }
 
-#[tactic(auto, using(std::proofs::lemmas::Int::ints), unfolding(crate::specs::Places::axis_shows))]
+#[tactic(auto, using(std::proofs::lemmas::Int::ints), unfolding(crate::specs::AskedBounds::axis_shows))]
 fn is_axis_shown(from: i32, low: i32, high: i32, limit: u32) -> bool
     ensures { result ≡ axis_shows from low high limit }
 {

@@ -1,19 +1,19 @@
 -- For private contracts.
 -- Bounds that a call asks for, before they are known to lie where a layer may (the manual's
 -- Layers Library chapter; which bounds a layer may have is this project's own).
-use Rattle.std.specs.Prelude.{ℕ, Bool, true, ◌&&◌, if◌then◌else◌, ℤ, pos, ◌+ℤ◌, ◌-ℤ◌, int_le}
+use Rattle.std.specs.Prelude.{ℕ, Bool, true, false, ◌&&◌, if◌then◌else◌, ℤ, pos, ◌+ℤ◌, ◌-ℤ◌, int_le}
 use Rattle.lw_region.specs.Rectangle.{Rectangle, IsOrdered, HasWords, within, moved_by}
 use Rattle.lw_calls.specs.declared.sizes.Sizes.{Sizes}
 use Rattle.lw_calls.specs.declared.make.Make.{Make}
+use Rattle.lw_calls.specs.declared.call.Call.{Call}
+use Rattle.lw_calls.specs.declared.call.Call.TheVariants.{MoveBy, SizeBy, SetBox}
 use Rattle.lw_calls.specs.Kinds.{is_super}
 use Rattle.lw_calls.specs.Limits.{is_coordinate, coordinates_fit, is_extent}
 use Rattle.lw_machine.specs.Shapes.{box_at}
 use Rattle.lw_machine.specs.Arrangement.{sized_by, may_lie_at, is_at_least, portion_fits}
 use Rattle.lw_layer.specs.declared.look.Look.{Look}
-use Rattle.lw_arrange.specs.declared.place.Edges.{Edges}
-use Rattle.lw_arrange.specs.declared.place.Needs.{Needs}
-use Rattle.lw_arrange.specs.declared.change.Change.{Change}
-use Rattle.lw_arrange.specs.declared.change.Change.TheVariants.{Move, Size, Box}
+use Rattle.lw_arrange.specs.declared.asked_bounds.Edges.{Edges}
+use Rattle.lw_arrange.specs.declared.asked_bounds.Needs.{Needs}
 
 -- the rectangle with these edges
 abbrev pub rectangle_of : Edges → Rectangle
@@ -64,17 +64,19 @@ abbrev pub new_needs : Make → Bool → Needs
 new_needs m framed =
     record { framed = framed; kind = m.kind; scroll_x = pos 0; scroll_y = pos 0; bits_w = m.bits_w; bits_h = m.bits_h }
 
--- the bounds that a change makes of others
-abbrev pub changed_by : Change → Rectangle → Rectangle
-changed_by (Move dx dy) r = moved_by r dx dy
-changed_by (Size dw dh) r = sized_by r dw dh
-changed_by (Box x y w h) r = box_at x y w h
+-- the bounds that a call makes of its layer's
+abbrev pub changed_by : Call → Rectangle → Rectangle
+changed_by (MoveBy slot dx dy) r = moved_by r dx dy
+changed_by (SizeBy slot dw dh) r = sized_by r dw dh
+changed_by (SetBox slot x y w h) r = box_at x y w h
+changed_by call r = r
 
--- the numbers of a change are in their ranges
-abbrev pub change_fits : Change → Bool
-change_fits (Move dx dy) = coordinates_fit dx dy
-change_fits (Size dw dh) = coordinates_fit dw dh
-change_fits (Box x y w h) = coordinates_fit x y && (is_extent w && is_extent h)
+-- the call changes its layer's bounds, by numbers in their ranges
+abbrev pub change_fits : Call → Bool
+change_fits (MoveBy slot dx dy) = coordinates_fit dx dy
+change_fits (SizeBy slot dw dh) = coordinates_fit dw dh
+change_fits (SetBox slot x y w h) = coordinates_fit x y && (is_extent w && is_extent h)
+change_fits call = false
 
 -- along one axis, a place that is a coordinate, and 1 to 65,536 places from it on
 abbrev pub span_fits : ℤ → ℤ → Bool

@@ -1,17 +1,15 @@
 -- Bounds that a call asks for: the ranges of its numbers.
-use Rattle.std.proofs.Common.{◌≡◌, ◌&&◌, true, ℤ, pos, negsuc, ◌≤ℤ◌, IsTrue, w32, to_z, of_z, ◌∙◌, ap, arith}
+use Rattle.std.proofs.Common.{◌≡◌, ◌&&◌, true, ℤ, pos, negsuc, ◌≤ℤ◌, IsTrue, w32, to_z, of_z, arith}
 use Rattle.std.proofs.lemmas.Bool.{and_parts, and_from}
 use Rattle.std.proofs.lemmas.Int.{ints}
 use Rattle.lw_region.specs.Rectangle.{within}
 use Rattle.lw_region.proofs.Within.{within_low, within_high}
-use Rattle.lw_calls.specs.Limits.{is_coordinate, is_extent, coordinates_fit, make_fits, hook_fits, kind_fits}
+use Rattle.lw_calls.specs.Limits.{is_coordinate, make_fits, hook_fits, kind_fits}
 use Rattle.lw_calls.specs.declared.make.Make.{Make}
 use Rattle.lw_calls.specs.declared.sizes.Sizes.{Sizes}
-use Rattle.lw_calls.proofs.LimitLaws.{extent_fits}
 use Rattle.lw_machine.specs.Shapes.{box_at}
 use Rattle.lw_machine.specs.Arrangement.{bounds_of}
-use Rattle.lw_arrange.specs.declared.change.Change.TheVariants.{Move, Size, Box}
-use Rattle.lw_arrange.specs.Places.{span_fits, make_spans}
+use Rattle.lw_arrange.specs.AskedBounds.{span_fits, make_spans}
 
 -- a number as it is read
 pub read_word : (z : ℤ) → negsuc 32767 ≤ℤ z → z ≤ℤ pos 65536 → to_z w32 (of_z w32 z) ≡ z
@@ -34,30 +32,6 @@ pub read_span : (from count : ℤ) → is_coordinate from ≡ true → within (p
     → IsTrue (span_fits (to_z w32 (of_z w32 from)) (to_z w32 (of_z w32 count)))
 read_span from count f c =
     rw (read_coordinate from f, read_count count c) (and_from (is_coordinate from) (within (pos 1) count (pos 65536)) f c)
-
--- the numbers of a change as they are read
-pub read_move : (dx dy : ℤ) → IsTrue (coordinates_fit dx dy) → Move (to_z w32 (of_z w32 dx)) (to_z w32 (of_z w32 dy)) ≡ Move dx dy
-read_move dx dy fits =
-    let parts = and_parts (is_coordinate dx) (is_coordinate dy) fits in
-    rw (read_coordinate dx parts.0, read_coordinate dy parts.1)
-
-pub read_size : (dw dh : ℤ) → IsTrue (coordinates_fit dw dh) → Size (to_z w32 (of_z w32 dw)) (to_z w32 (of_z w32 dh)) ≡ Size dw dh
-read_size dw dh fits =
-    let parts = and_parts (is_coordinate dw) (is_coordinate dh) fits in
-    rw (read_coordinate dw parts.0, read_coordinate dh parts.1)
-
-pub read_box : (x y w h : ℤ) → IsTrue (coordinates_fit x y && (is_extent w && is_extent h))
-    → Box (to_z w32 (of_z w32 x)) (to_z w32 (of_z w32 y)) (to_z w32 (of_z w32 w)) (to_z w32 (of_z w32 h)) ≡ Box x y w h
-read_box x y w h fits =
-    let parts = and_parts (coordinates_fit x y) (is_extent w && is_extent h) fits in
-    let corner = and_parts (is_coordinate x) (is_coordinate y) parts.0 in
-    let size = and_parts (is_extent w) (is_extent h) parts.1 in
-    let ex = read_coordinate x corner.0 in
-    let ey = read_coordinate y corner.1 in
-    let ew = read_count w (extent_fits w size.0) in
-    let eh = read_count h (extent_fits h size.1) in
-    ap (λ z. Box z (to_z w32 (of_z w32 y)) (to_z w32 (of_z w32 w)) (to_z w32 (of_z w32 h))) ex
-    ∙ (ap (λ z. Box x z (to_z w32 (of_z w32 w)) (to_z w32 (of_z w32 h))) ey ∙ (ap (λ z. Box x y z (to_z w32 (of_z w32 h))) ew ∙ ap (λ z. Box x y w z) eh))
 
 -- the bounds of a new layer as they are read
 pub read_bounds : (m : Make) → IsTrue (make_spans m)
