@@ -13,10 +13,6 @@ mod ListsOfLists
 mod NamedPairs
 mod NamesAdded
 mod NamesWith
-mod OrderAnswers
-mod OrderLoop
-pub mod OrderNumbers
-pub mod OrderSections
 mod Outcomes
 mod Passing
 mod PatternLists

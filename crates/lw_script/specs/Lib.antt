@@ -1,11 +1,7 @@
 pub mod Answers
 pub mod AreasRead
 pub mod CallParts
-pub mod Differing
 pub mod GzzRead
 pub mod NextLine
-pub mod OrderAnswers
-pub mod OrderReading
-pub mod OrderSection
 pub mod ReaderKnows
 pub mod Represents

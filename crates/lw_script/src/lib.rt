@@ -6,11 +6,8 @@
 mod adding;
 mod areas;
 mod assets;
-mod differing;
 mod finish;
 mod input;
-mod order;
-mod order_stop;
 mod pairs;
 mod reading;
 mod script;
@@ -19,8 +16,5 @@ mod taking;
 mod tasks;
 mod tested;
 
-pub use differing::first_difference;
 pub use input::{Input, ScriptStop};
-pub use order::read_order;
-pub use order_stop::OrderStop;
 pub use script::read;

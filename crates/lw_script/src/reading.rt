@@ -10,8 +10,9 @@ ghost use Rattle.lw_script.specs.AreasRead.{ReadsBelow, area_meaning, if_passed}
 ghost use Rattle.lw_script.specs.Represents.{Represents};
 
 use crate::state::{NamedPair, Reader};
+use lw_lines::words_line;
 use lw_region::Rect;
-use lw_statements::{AskedPolygon, GzzAct, Line, Statement, words_line};
+use lw_statements::{AskedPolygon, GzzAct, Line, Statement};
 use lw_words::{Stop, Token, line_words};
 use std::alloc::Global;
 

@@ -1,4 +1,4 @@
-//! Tests of the reader of scripts, orders and reports, which call what `lw_script` exports.
+//! Tests of the reader of scripts, orders and reports, which call what `lw_script` and `lw_report_order` export.
 #![tactic(auto)]
 
 #[cfg(test)]

@@ -1,4 +1,4 @@
-use lw_script::{OrderStop, read_order};
+use lw_report_order::{OrderStop, read_order};
 use std::alloc::{AllocError, Global};
 use std::test::Fail;
 

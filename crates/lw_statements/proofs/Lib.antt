@@ -1,6 +1,3 @@
 mod ActNumbers
-mod AreaPoints
-mod Classes
-mod PatternWords
 mod RectRanges
 mod GzzBoxes

@@ -28,7 +28,7 @@ pub struct NewLayer {
     /// The size of a bitmap of its own, or 0 and 0.
     pub bits_w: i64,
     pub bits_h: i64,
-    ghost bits: { FitKind kind bits_w bits_h },
+    pub ghost bits: { FitKind kind bits_w bits_h },
 }
 
 impl NewLayer {
@@ -193,7 +193,7 @@ pub struct AskedPolygon<'a> {
     pub layer: &'a [u8],
     pub pattern: Option<&'a [u8]>,
     pub points: Vec<AskedPoint>,
-    ghost count: { is_point_count (length points.items) ≡ true },
+    pub ghost count: { is_point_count (length points.items) ≡ true },
 }
 
 /// What a line does with a window of two layers. Names and texts stand in the input, and boxes are in the line's own numbers: a

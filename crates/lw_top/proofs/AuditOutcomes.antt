@@ -4,7 +4,7 @@ use Rattle.lw_calls.specs.Plan.{Plan}
 use Rattle.lw_calls.specs.Orders.{IsBadPlace}
 use Rattle.lw_grammar.specs.Script.{ScriptInput, SpellsInput}
 use Rattle.lw_machine.specs.Hook.{Hook}
-use Rattle.lw_script.specs.OrderSection.{HasOrder}
+use Rattle.lw_report_order.specs.OrderSection.{HasOrder}
 use Rattle.lw_top.specs.declared.status.Status.{Status}
 use Rattle.lw_top.specs.declared.status.Status.TheVariants.{Done, Differs, BadOrder}
 use Rattle.lw_top.specs.declared.words.ScriptCommand.TheVariants.{Audit}

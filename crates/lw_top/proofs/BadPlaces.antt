@@ -3,7 +3,7 @@ use Rattle.std.proofs.Common.{◌≡◌, ℕ, ◌+◌, ◌<◌, ◌≤◌, inl, 
 use Rattle.std.proofs.lemmas.Bool.{true≢false, ltb-true, ltb-false}
 use Rattle.lw_calls.specs.Plan.{Plan}
 use Rattle.lw_calls.specs.Orders.{is_legal, Begins, EndsAt, IsBadPlace}
-use Rattle.lw_script.proofs.OrderSections.{front_goes_on}
+use Rattle.lw_report_order.proofs.OrderSections.{front_goes_on}
 
 -- what begins a legal order has fronts that do
 front_begins : (plan : Plan) (k m : ℕ) (order : List ℕ) → k ≤ m → Begins plan (take m order) → Begins plan (take k order)

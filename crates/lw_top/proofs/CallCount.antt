@@ -10,7 +10,7 @@ use Rattle.lw_calls.specs.Orders.{occurrences, may_come, keeps_groups, is_comple
 use Rattle.lw_calls.specs.Limits.{limits_of}
 use Rattle.lw_calls.proofs.OrdersComplete.{all_below, call_there}
 use Rattle.lw_calls.proofs.LimitLaws.{calls_at_most}
-use Rattle.lw_script.specs.OrderSection.{AreTasks}
+use Rattle.lw_report_order.specs.OrderSection.{AreTasks}
 use Rattle.lw_top.specs.Audit.{call_count}
 use Rattle.lw_top.proofs.LegalOrders.{is_of_plan}
 

@@ -19,9 +19,9 @@ use Rattle.lw_top.specs.declared.status.Status.{Status}
 use Rattle.lw_top.specs.declared.status.Status.TheVariants.{Done, Refused, TooLong, Differs, BadOrder}
 use Rattle.lw_top.specs.declared.words.ScriptCommand.{ScriptCommand}
 use Rattle.lw_top.specs.declared.words.ScriptCommand.TheVariants.{Run, Check, Replay, Audit}
-use Rattle.lw_script.specs.Differing.{DiffersAt}
-use Rattle.lw_script.specs.OrderSection.{HasOrder, StopsAt}
-use Rattle.lw_script.proofs.OrderSections.{order_or_place, one_order, one_stop, same_or_differ, one_difference, same_or_differs}
+use Rattle.lw_report_order.specs.Differing.{DiffersAt}
+use Rattle.lw_report_order.specs.OrderSection.{HasOrder, StopsAt}
+use Rattle.lw_report_order.proofs.OrderSections.{order_or_place, one_order, one_stop, same_or_differ, one_difference, same_or_differs}
 use Rattle.lw_top.specs.Audit.{call_count, IsMachineReport, IsBadReportOrder, IsDifference}
 use Rattle.lw_top.specs.Commands.{output_of, reads_with, behind_script, IsTextFor, IsBadOrderFor, IsDifferenceFor}
 use Rattle.lw_top.specs.Outcome.{IsOutcomeFor, IsOutcome}

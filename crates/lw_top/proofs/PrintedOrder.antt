@@ -8,8 +8,8 @@ use Rattle.lw_calls.specs.Orders.{is_legal}
 use Rattle.lw_machine.specs.Finals.{run_final}
 use Rattle.lw_machine.specs.Hook.{Hook}
 use Rattle.lw_machine.specs.Report.{order_numbers, order_part, planes_part, of_slots, visible_text, damage_text, messages_text, replies_part, report, run_report}
-use Rattle.lw_script.specs.OrderSection.{HasOrder}
-use Rattle.lw_script.proofs.OrderSections.{section_is, one_order}
+use Rattle.lw_report_order.specs.OrderSection.{HasOrder}
+use Rattle.lw_report_order.proofs.OrderSections.{section_is, one_order}
 use Rattle.lw_top.specs.Audit.{call_count}
 use Rattle.lw_top.specs.Run.{ReportsTellTheirOrder}
 use Rattle.lw_top.proofs.CallCount.{legal_tasks, order_short}

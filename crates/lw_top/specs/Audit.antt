@@ -5,8 +5,8 @@ use Rattle.lw_calls.specs.Plan.{Plan}
 use Rattle.lw_calls.specs.Orders.{is_legal, IsBadPlace}
 use Rattle.lw_machine.specs.Hook.{Hook}
 use Rattle.lw_machine.specs.Report.{run_report}
-use Rattle.lw_script.specs.Differing.{DiffersAt}
-use Rattle.lw_script.specs.OrderSection.{HasOrder, StopsAt}
+use Rattle.lw_report_order.specs.Differing.{DiffersAt}
+use Rattle.lw_report_order.specs.OrderSection.{HasOrder, StopsAt}
 
 -- how many calls a plan has
 abbrev pub call_count : Plan → ℕ

@@ -4,7 +4,7 @@ use Rattle.std.specs.Prelude.{◌≡◌, ℕ, List, codes}
 use Rattle.lw_calls.specs.Plan.{Plan}
 use Rattle.lw_calls.specs.Written.{line_of}
 use Rattle.lw_machine.specs.Hook.{Hook}
-use Rattle.lw_script.specs.Differing.{DiffersAt}
+use Rattle.lw_report_order.specs.Differing.{DiffersAt}
 use Rattle.lw_top.specs.declared.status.Status.{Status}
 use Rattle.lw_top.specs.declared.status.Status.TheVariants.{Done, Differs, BadOrder}
 use Rattle.lw_top.specs.Audit.{IsMachineReport, IsBadReportOrder, IsDifference}

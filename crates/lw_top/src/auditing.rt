@@ -2,7 +2,7 @@
 
 ghost use Rattle.std.specs.Prelude.{◌≡◌, ℕ, ◌<◌, ◌≤◌, List, length, map, vec_len, IfOk};
 ghost use Rattle.lw_script.specs.Answers.{input_meaning};
-ghost use Rattle.lw_script.specs.OrderSection.{HasOrder};
+ghost use Rattle.lw_report_order.specs.OrderSection.{HasOrder};
 ghost use Rattle.lw_top.specs.Audit.{call_count};
 ghost use Rattle.lw_top.specs.AuditOutcome.{IsAudited, IsCompared};
 ghost use Rattle.lw_top.specs.Outcome.{IsOutcome};
@@ -16,7 +16,8 @@ use crate::words::ScriptCommand;
 use lw_backfill::Backfill;
 use lw_calls::{OrderList, Plan, bad_place};
 use lw_grammar::Form;
-use lw_script::{OrderStop, ScriptStop, first_difference, read, read_order};
+use lw_report_order::{OrderStop, first_difference, read_order};
+use lw_script::{ScriptStop, read};
 use std::alloc::{AllocError, Global};
 
 /// The outcome of `audit` with these hooks, on an input of no more bytes than the limit.

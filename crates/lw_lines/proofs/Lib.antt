@@ -1,0 +1,3 @@
+mod AreaPoints
+mod Classes
+mod PatternWords

@@ -1,0 +1,4 @@
+pub mod AskedParts
+pub mod FirstPoint
+pub mod LineReading
+pub mod GzzParts

@@ -1,0 +1,4 @@
+mod OrderAnswers
+mod OrderLoop
+pub mod OrderNumbers
+pub mod OrderSections

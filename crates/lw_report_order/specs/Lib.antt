@@ -1,0 +1,4 @@
+pub mod Differing
+pub mod OrderAnswers
+pub mod OrderReading
+pub mod OrderSection
