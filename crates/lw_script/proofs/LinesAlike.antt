@@ -10,13 +10,14 @@ use Rattle.lw_grammar.specs.declared.reason.Reason.{Reason}
 use Rattle.lw_grammar.specs.declared.reason.Reason.TheVariants.{Range, NoName, DoubleName, Gzz as GzzReason, Group, TooMany, NoHook, HookUsed, Padding}
 use Rattle.lw_grammar.specs.Demands.{◌>>=◌, demand}
 use Rattle.lw_grammar.specs.Statements.{Statement, GlyphLine, BitmapLine, PatternLine, TaskLine, CallLine, LockLine, UnlockLine, GzzAct, OpenGzz, Line, StatementLine, AreaLine, GzzLine, is_line_in_range, is_gzz_in_range}
-use Rattle.lw_script.specs.declared.reading.ReadLine.{ReadLine}
-use Rattle.lw_script.specs.declared.reading.ReadLine.TheVariants.{Statement as StatementRead, Area as AreaRead, Gzz as GzzRead}
-use Rattle.lw_script.specs.declared.state.Reader.{Reader}
+use Rattle.lw_reader.specs.declared.read_line.ReadLine.{ReadLine}
+use Rattle.lw_reader.specs.declared.read_line.ReadLine.TheVariants.{Statement as StatementRead, Area as AreaRead, Gzz as GzzRead}
+use Rattle.lw_reader.specs.declared.state.Reader.{Reader}
 use Rattle.lw_words.specs.declared.stop.Stop.{Stop}
-use Rattle.lw_script.specs.AreasRead.{lines_of, ReadsBelow}
-use Rattle.lw_script.specs.ReaderKnows.{known, setting_of}
-use Rattle.lw_script.specs.Represents.{Represents}
+use Rattle.lw_reader.specs.LinesRead.{lines_of}
+use Rattle.lw_tested.specs.AreasRead.{ReadsBelow}
+use Rattle.lw_reader.specs.ReaderKnows.{known, setting_of}
+use Rattle.lw_reader.specs.Represents.{Represents}
 
 -- Lines tell as many of everything.
 record AreCountedAlike (t u : Told) : Type 0 where

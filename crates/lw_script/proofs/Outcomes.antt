@@ -1,19 +1,19 @@
 -- The outcome of lines, a line at a time, and the place after the lines that were read.
 use Rattle.std.proofs.Common.{◌≡◌, ℕ, ◌+◌, ◌-◌, ◌<◌, ◌≤◌, Bool, true, false, min, List, [], ◌∷◌, length, Result, Ok, Err, IfOk, ⊎_elim, ◌⊎◌, refl, sym, ap, subst, ◌∙◌, arith}
-use Rattle.lw_grammar.specs.Told.{told}
-use Rattle.lw_grammar.specs.Script.{Setting, is_nothing_due, statements_with, Reached, with_line, at_number, may_end, end_read, lines_read, ScriptInput, input_from}
+use Rattle.lw_grammar.specs.Told.{told, stands_for}
+use Rattle.lw_grammar.specs.Script.{Setting, is_nothing_due, statements_with, Reached, with_line, at_number, may_end, end_read, lines_read, ScriptInput, input_from, added, is_skipped, line_read}
 use Rattle.lw_grammar.specs.GoodLines.{AreGoodLines}
 use Rattle.lw_grammar.specs.declared.reason.Reason.{Reason}
 use Rattle.lw_grammar.specs.declared.reason.Reason.TheVariants.{Missing}
 use Rattle.lw_grammar.specs.Demands.{◌>>=◌, demand}
 use Rattle.lw_grammar.specs.Lines.{lines}
-use Rattle.lw_grammar.specs.Statements.{Statement}
+use Rattle.lw_grammar.specs.Statements.{Statement, Line}
 use Rattle.lw_grammar.proofs.ScriptOutcome.{with_good}
 use Rattle.lw_words.specs.Cuts.{IsCutLine}
 use Rattle.lw_script.specs.declared.input.ScriptStop.{ScriptStop}
 use Rattle.lw_script.specs.declared.input.ScriptStop.TheVariants.{Refused, Memory}
-use Rattle.lw_script.specs.declared.state.Reader.{Reader}
-use Rattle.lw_script.specs.Answers.{Advances, Gives}
+use Rattle.lw_reader.specs.declared.state.Reader.{Reader}
+use Rattle.lw_script.specs.Answers.{Advances, Gives, Takes}
 use Rattle.std.proofs.lemmas.Int.{clamps}
 
 -- what lines give where a further one is read
@@ -67,3 +67,15 @@ ended s all place p e = go (may_end s.form (told p.statements).section) refl
     go : (b : Bool) → may_end s.form (told p.statements).section ≡ b → inputs_of s all (Ends b) ≡ (Ends b >>= (λ q. Ok (input_from s (told q.statements) place)))
     go true d = ap (λ n. Ok (input_from s (told p.statements) n)) e
     go false d = refl
+
+-- a line that was taken goes on
+pub advances : (s : Setting) (new : Reader) (above : List Statement) (n : ℕ) (answer : Result (Unit {0}) ScriptStop) (line : List ℕ) → is_skipped line ≡ false → Takes s new above n answer (line_read s (told above) line) → Advances s new n answer (statements_with s above line)
+advances s new above n answer line e h = rw e (go answer h)
+  where
+    with_all : Result Line Reason → Result (List Statement) Reason
+    with_all o = o >>= (λ l. Ok (added (stands_for (told above) l) above))
+
+    go : (answer : Result (Unit {0}) ScriptStop) → Takes s new above n answer (line_read s (told above) line) → Advances s new n answer (with_all (line_read s (told above) line))
+    go (Ok done) k = (added (stands_for (told above) k.0) above, ap with_all k.1, k.2)
+    go (Err (Refused m reason)) k = (k.0, ap with_all k.1)
+    go (Err Memory) k = tt

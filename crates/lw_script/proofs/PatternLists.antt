@@ -4,8 +4,8 @@ use Rattle.lw_grammar.specs.Statements.{Statement, PatternLine}
 use Rattle.lw_grammar.specs.Told.{told}
 use Rattle.lw_grammar.specs.Script.{Setting}
 use Rattle.lw_words.proofs.Targets.{length_targets}
-use Rattle.lw_script.specs.declared.state.Reader.{Reader}
-use Rattle.lw_script.specs.Represents.{Represents}
+use Rattle.lw_reader.specs.declared.state.Reader.{Reader}
+use Rattle.lw_reader.specs.Represents.{Represents}
 
 as_many : (above : List Statement) → length (told above).patterns ≡ length (told above).pattern_names
 as_many [] = refl

@@ -1,5 +1,5 @@
 -- What was read of a whole script makes a plan that may be run.
-use Rattle.std.proofs.Common.{◌≡◌, ℕ, ◌+◌, ◌<◌, ◌≤◌, ◌==◌, Bool, true, false, List, [], ◌∷◌, ◌++◌, length, map, take, get_or, Bor, Fits, w32, refl, sym, ap, subst, ◌∙◌, arith, append-nil}
+use Rattle.std.proofs.Common.{◌≡◌, ℕ, ◌+◌, ◌<◌, ◌≤◌, ◌==◌, Bool, true, false, List, [], ◌∷◌, ◌++◌, Result, Ok, Err, length, map, take, get_or, Bor, Fits, w32, refl, sym, ap, subst, ◌∙◌, arith, append-nil}
 use Rattle.std.specs.List.{range_with_len}
 use Rattle.lw_planes.specs.Bitmap.{Bitmap}
 use Rattle.lw_calls.specs.declared.call.Call.{Call}
@@ -13,17 +13,24 @@ use Rattle.lw_calls.proofs.LimitLaws.{names_at_most}
 use Rattle.lw_calls.proofs.TwoTasks.{plan_with}
 use Rattle.lw_grammar.specs.Statements.{Statement}
 use Rattle.lw_grammar.specs.Told.{pair_among, told, plan_of}
-use Rattle.lw_grammar.specs.Script.{Setting, may_end, ScriptInput, input_from}
+use Rattle.lw_grammar.specs.declared.reason.Reason.{Reason}
+use Rattle.lw_grammar.specs.declared.reason.Reason.TheVariants.{Missing}
+use Rattle.lw_grammar.specs.Demands.{◌>>=◌, demand}
+use Rattle.lw_grammar.specs.Script.{Setting, Reached, at_number, may_end, ScriptInput, input_from}
 use Rattle.lw_grammar.proofs.ScriptOutcome.{rows_in_assets}
 use Rattle.lw_grammar.proofs.ScriptSizes.{counted, whole_ends}
 use Rattle.lw_grammar.proofs.ScriptRunnable.{runs_from_good}
 use Rattle.lw_words.specs.Cuts.{targets}
 use Rattle.lw_words.proofs.Targets.{length_targets}
 use Rattle.lw_statements.specs.SectionMeaning.{section_meaning}
-use Rattle.lw_script.specs.declared.state.NamedPair.{NamedPair}
-use Rattle.lw_script.specs.declared.state.Reader.{Reader}
-use Rattle.lw_script.specs.ReaderKnows.{pair_meaning, placed}
-use Rattle.lw_script.specs.Represents.{Represents, HasRead, unfinished}
+use Rattle.lw_reader.specs.declared.state.NamedPair.{NamedPair}
+use Rattle.lw_reader.specs.declared.state.Reader.{Reader}
+use Rattle.lw_reader.specs.ReaderKnows.{pair_meaning, placed}
+use Rattle.lw_reader.specs.Represents.{Represents, HasRead, unfinished}
+use Rattle.lw_script.specs.declared.input.ScriptStop.{ScriptStop}
+use Rattle.lw_script.specs.declared.input.ScriptStop.TheVariants.{Refused, Memory}
+use Rattle.lw_script.specs.Answers.{Gives, ended_with}
+use Rattle.lw_script.specs.PlanNames.{NamesAtEnd}
 use Rattle.std.proofs.lemmas.Bool.{eqb-true}
 use Rattle.std.proofs.lemmas.List.{map-append, take_more}
 
@@ -58,6 +65,15 @@ one_placed names ps i d slots new q h e f g =
 pub ends_alike : (s : Setting) (r : Reader) (above : List Statement) → Represents s r above → may_end r.form (section_meaning r.section) ≡ may_end s.form (told above).section
 ends_alike s r above k =
     ap (λ f. may_end f (section_meaning r.section)) k.form ∙ ap (may_end s.form) k.section
+
+-- where the input may not end below the lines, that is the outcome
+pub ended_early : (s : Setting) (r : Reader) (p : Reached) (n place : ℕ) (stop : ScriptStop) → p.number ≡ n → Represents s r p.statements → NamesAtEnd r n (Err stop) → Gives (Err stop) (ended_with s place p)
+ended_early s r p n place (Refused line reason) same k h =
+    let early : may_end s.form (told p.statements).section ≡ false = sym (ends_alike s r p.statements k) ∙ h.0 in
+    let Ends : Bool → Result ScriptInput (ℕ × Reason) = λ b. (at_number p.number (demand b Missing) >>= (λ _. Ok p)) >>= (λ q. Ok (input_from s (told q.statements) place)) in
+    let At : ℕ → Reason → Result ScriptInput (ℕ × Reason) = λ m why. Err (m, why) in
+    ap Ends early ∙ ap (λ m. At m Missing) (same ∙ sym h.1) ∙ ap (At line) (sym h.2)
+ended_early s r p n place Memory same k h = tt
 
 -- where the input may end no rows are due
 pub none_due : (r : Reader) → HasRead r → may_end r.form (section_meaning r.section) ≡ true → r.assets.due ≡ 0

@@ -8,8 +8,8 @@ use Rattle.lw_grammar.specs.Script.{Setting, added, Reached, end_read, ScriptInp
 use Rattle.lw_script.specs.declared.input.Input.{Input}
 use Rattle.lw_script.specs.declared.input.ScriptStop.{ScriptStop}
 use Rattle.lw_script.specs.declared.input.ScriptStop.TheVariants.{Refused, Memory}
-use Rattle.lw_script.specs.declared.state.Reader.{Reader}
-use Rattle.lw_script.specs.Represents.{Represents}
+use Rattle.lw_reader.specs.declared.state.Reader.{Reader}
+use Rattle.lw_reader.specs.Represents.{Represents}
 
 -- what a script gives, as the grammar has it
 abbrev pub input_meaning : Input → ScriptInput

@@ -6,17 +6,27 @@ ghost use Rattle.lw_grammar.specs.Told.{told, plan_of};
 ghost use Rattle.lw_grammar.specs.Script.{Setting, Reached, may_end, input_from};
 ghost use Rattle.lw_words.specs.Cuts.{targets};
 ghost use Rattle.lw_statements.specs.SectionMeaning.{section_meaning};
-ghost use Rattle.lw_script.specs.ReaderKnows.{placed};
-ghost use Rattle.lw_script.specs.Represents.{Represents, HasRead};
+ghost use Rattle.lw_reader.specs.ReaderKnows.{placed};
+ghost use Rattle.lw_reader.specs.Represents.{Represents, HasRead};
 ghost use Rattle.lw_script.specs.Answers.{input_meaning, Gives, ended_with};
+ghost use Rattle.lw_script.specs.PlanNames.{AreNames, NamesAtEnd};
 
 use crate::input::{Input, ScriptStop};
-use crate::state::{AssetsRead, NamedPair, Reader, TasksRead, place_of_name};
 use indexmap::IndexSet;
 use lw_calls::{Assets, OrderList, Pair, Plan, PlanParts, Sizes, Text};
 use lw_grammar::Reason;
 use lw_planes::Planes;
+use lw_reader::{AssetsRead, NamedPair, Reader, TasksRead, place_of_name};
 use std::alloc::{AllocError, Global};
+
+/// The names of a plan and its windows of two layers.
+#[derive(Drop)]
+pub(crate) struct PlanNames {
+    pub slot_names: Vec<Text>,
+    pub task_names: Vec<Text>,
+    pub bitmap_names: Vec<Text>,
+    pub pairs: Vec<Pair>,
+}
 
 /// The names as texts of their own.
 fn texts_of(alloc: Global, names: &[&[u8]]) -> Result<Vec<Text>, AllocError>
@@ -64,79 +74,117 @@ fn assets_of(glyphs: [[u8; 8]; 95], bitmaps: Vec<Planes>) -> Assets
     Assets { glyphs, bitmaps }
 }
 
-impl<'a> Reader<'a> {
-    /// The sizes of the lines that were read.
-    fn sizes(&self) -> Sizes
-        requires { HasRead self.now }
-        ensures { (s : Setting) (above : List StatementValue) → Represents s self.now above
-            → result ≡ (plan_of s.hooks (told above)).sizes }
-    {
-        Sizes {
-            version: self.version,
-            width: self.width,
-            height: self.height,
-            depth: self.depth,
-            slots: self.tasks.layer_names.len() as u32,
-            tasks: self.tasks.task_names.len() as u32,
-            hooks: self.hooks,
-            bitmaps: self.assets.names.len() as u32,
-        }
+/// The sizes of the lines that were read.
+fn sizes(reader: &Reader<'_>) -> Sizes
+    requires { HasRead reader.now }
+    ensures { (s : Setting) (above : List StatementValue) → Represents s reader.now above
+        → result ≡ (plan_of s.hooks (told above)).sizes }
+{
+    Sizes {
+        version: reader.version,
+        width: reader.width,
+        height: reader.height,
+        depth: reader.depth,
+        slots: reader.tasks.layer_names.len() as u32,
+        tasks: reader.tasks.task_names.len() as u32,
+        hooks: reader.hooks,
+        bitmaps: reader.assets.names.len() as u32,
     }
+}
 
-    /// What the lines give that were read, where the input may end below them.
-    fn input(self, alloc: Global, rest: usize) -> Result<Input, AllocError>
-        requires read { HasRead self }
-        requires ended { IsTrue (may_end self.form (section_meaning self.section)) }
-        ensures { (s : Setting) (above : List StatementValue) → Represents s self.entry above
-            → IfOk result (λ input. input_meaning input ≡ input_from s (told above) rest) }
-    {
-        let sizes = self.sizes();
-        let slot_names = texts_of(alloc, self.tasks.layer_names.as_slice())?;
-        let task_names = texts_of(alloc, self.tasks.task_names.as_slice())?;
-        let bitmap_names = texts_of(alloc, self.assets.names.as_slice())?;
-        let pairs = pairs_among(alloc, &self.tasks.layer_names, self.tasks.pairs.as_slice())?;
-        let Reader {
-            assets,
-            tasks,
-            order,
-            ..
-        } = self;
-        let AssetsRead {
-            glyphs,
-            bitmaps,
-            ..
-        } = assets;
-        let TasksRead { calls, groups, .. } = tasks;
-        let plan = Plan::new(PlanParts {
-            sizes,
-            slot_names,
-            task_names,
-            bitmap_names,
-            calls,
-            groups,
-            pairs,
-            assets: assets_of(glyphs, bitmaps),
+/// The names of a plan and its windows of two layers.
+fn names_of(alloc: Global, reader: &Reader<'_>) -> Result<PlanNames, AllocError>
+    requires { HasRead reader.now }
+    ensures { IfOk result (AreNames reader.now) }
+{
+    let slot_names = texts_of(alloc, reader.tasks.layer_names.as_slice())?;
+    let task_names = texts_of(alloc, reader.tasks.task_names.as_slice())?;
+    let bitmap_names = texts_of(alloc, reader.assets.names.as_slice())?;
+    let pairs = pairs_among(
+        alloc,
+        &reader.tasks.layer_names,
+        reader.tasks.pairs.as_slice(),
+    )?;
+    Ok(PlanNames {
+        slot_names,
+        task_names,
+        bitmap_names,
+        pairs,
+    })
+}
+
+/// The same where the input may end below the lines that were read, where the next line would have this number.
+fn names_at_end(alloc: Global, reader: &Reader<'_>, number: u32) -> Result<PlanNames, ScriptStop>
+    requires { HasRead reader.now }
+    ensures { NamesAtEnd reader.now number result }
+{
+    if !reader.section.may_end(reader.form) {
+        return Err(ScriptStop::Refused {
+            line: number,
+            reason: Reason::Missing,
         });
-        Ok(Input {
-            plan,
-            order: OrderList::new(order),
-            rest,
-        })
     }
+    Ok(names_of(alloc, reader)?)
+}
 
-    /// The answer at the input's end, where the next line would have this number and what stands after the lines begins at
-    /// `rest`.
-    pub fn finish(self, alloc: Global, number: u32, rest: usize) -> Result<Input, ScriptStop>
-        requires { HasRead self }
-        ensures { (s : Setting) (p : Reached) → p.number ≡ number → Represents s self.entry p.statements
-            → Gives result (ended_with s rest p) }
-    {
-        if !self.section.may_end(self.form) {
-            return Err(ScriptStop::Refused {
-                line: number,
-                reason: Reason::Missing,
-            });
-        }
-        Ok(self.input(alloc, rest)?)
+/// What the lines give that were read, where the input may end below them and their plan has these names.
+fn input(reader: Reader<'_>, names: PlanNames, rest: usize) -> Input
+    requires read { HasRead reader }
+    requires ended { IsTrue (may_end reader.form (section_meaning reader.section)) }
+    requires named { AreNames reader names }
+    ensures { (s : Setting) (above : List StatementValue) → Represents s reader.entry above
+        → input_meaning result ≡ input_from s (told above) rest }
+{
+    let sizes = sizes(&reader);
+    let Reader {
+        assets,
+        tasks,
+        order,
+        ..
+    } = reader;
+    let AssetsRead {
+        glyphs,
+        bitmaps,
+        ..
+    } = assets;
+    let TasksRead { calls, groups, .. } = tasks;
+    let PlanNames {
+        slot_names,
+        task_names,
+        bitmap_names,
+        pairs,
+    } = names;
+    let plan = Plan::new(PlanParts {
+        sizes,
+        slot_names,
+        task_names,
+        bitmap_names,
+        calls,
+        groups,
+        pairs,
+        assets: assets_of(glyphs, bitmaps),
+    });
+    Input {
+        plan,
+        order: OrderList::new(order),
+        rest,
+    }
+}
+
+/// The answer at the input's end, where the next line would have this number and what stands after the lines begins at
+/// `rest`.
+pub(crate) fn finish(
+    alloc: Global,
+    reader: Reader<'_>,
+    number: u32,
+    rest: usize,
+) -> Result<Input, ScriptStop>
+    requires { HasRead reader }
+    ensures { (s : Setting) (p : Reached) → p.number ≡ number → Represents s reader.entry p.statements
+        → Gives result (ended_with s rest p) }
+{
+    match names_at_end(alloc, &reader, number) {
+        Err(stop) => Err(stop),
+        Ok(names) => Ok(input(reader, names, rest)),
     }
 }

@@ -3,18 +3,11 @@
 //! bytes spell, and `Told.antt` what lines tell.
 #![tactic(auto)]
 
-mod adding;
-mod areas;
-mod assets;
 mod finish;
 mod input;
-mod pairs;
 mod reading;
 mod script;
-mod state;
 mod taking;
-mod tasks;
-mod tested;
 
 pub use input::{Input, ScriptStop};
 pub use script::read;

@@ -5,9 +5,11 @@ ghost use Rattle.lw_grammar.specs.Lines.{lines};
 ghost use Rattle.lw_grammar.specs.Script.{ScriptInput, outcome_of, SpellsInput, IsFirstBadIn, IsRunnableInput, reading_with};
 ghost use Rattle.lw_script.specs.Answers.{input_meaning, Gives, GivesInput, RefusesAt};
 
+use crate::finish::finish;
 use crate::input::{Input, ScriptStop};
-use crate::state::Reader;
+use crate::taking::{next_line, take_line};
 use lw_grammar::Form;
+use lw_reader::Reader;
 use std::alloc::Global;
 
 /// Reads the lines one after another, up to a line `report` if there is one.
@@ -20,12 +22,12 @@ fn read_lines(alloc: Global, bytes: &[u8], hooks: u32, form: Form) -> Result<Inp
     let mut number = 1;
     let mut words = Vec::new(alloc);
     let mut tokens = Vec::new(alloc);
-    while let Some((line, behind)) = reader.next_line(rest) {
-        reader.take_line(alloc, number, line, &mut words, &mut tokens)?;
+    while let Some((line, behind)) = next_line(&reader, rest) {
+        take_line(alloc, &mut reader, number, line, &mut words, &mut tokens)?;
         rest = behind;
         number += 1;
     }
-    reader.finish(alloc, number, bytes.len() - rest.len())
+    finish(alloc, reader, number, bytes.len() - rest.len())
 }
 
 /// Reads a script in this input, where so many hooks are handed in: the plan that its lines spell, the numbers of its order

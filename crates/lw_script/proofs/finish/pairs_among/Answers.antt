@@ -1,6 +1,6 @@
 use Rattle.std.proofs.Common.{[]}
 use Rattle.lw_words.specs.Cuts.{targets}
-use Rattle.lw_script.specs.declared.state.NamedPair.{NamedPair}
+use Rattle.lw_reader.specs.declared.state.NamedPair.{NamedPair}
 use Rattle.lw_script.proofs.ReadPlans.{one_placed}
 use Rattle.lw_script.proofs.finish.pairs_among.Goals as goal
 

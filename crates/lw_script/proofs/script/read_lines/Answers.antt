@@ -36,7 +36,7 @@ returns-in_err-take_line c =
     let cut = c.in-Some.ensures in
     let due : is_nothing_due (told i.reached.statements).section ≡ false = ap is_nothing_due (sym i.stands.section) ∙ cut.0 in
     let e = err_from_is_err_and c.from_residual.result c.from_residual.ensures.1 in
-    let stop = stopped s c.take_line.new.self all c.loop-line.number i.reached c.in-Some.line.now (lines c.in-Some.behind.now) c.in_err-take_line.field-0.0 i.number due (c.in_err-take_line.ensures s i.reached.statements i.stands) in
+    let stop = stopped s c.take_line.new.reader all c.loop-line.number i.reached c.in-Some.line.now (lines c.in-Some.behind.now) c.in_err-take_line.field-0.0 i.number due (c.in_err-take_line.ensures s i.reached.statements i.stands) in
     let G : Result Input ScriptStop → Type 0 = λ r. Gives r (outcome_of s c.args.bytes.now) in
     let H : Result ScriptInput (ℕ × Reason) → Type 0 = λ o. Gives (Err c.in_err-take_line.field-0.0) o in
     subst G (sym (e.1 ∙ ap (λ x. Err x) e.2)) (subst H (sym (ap (inputs_of s all) (i.left ∙ ap (lines_read s i.reached) cut.1.lines))) stop)

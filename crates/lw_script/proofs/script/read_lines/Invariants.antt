@@ -2,7 +2,7 @@ use Rattle.std.proofs.Common.{◌≡◌, ◌+◌, ◌-◌, ◌≤◌, length, mi
 use Rattle.lw_grammar.specs.Script.{Reached, at_the_top, lines_read, reading_with}
 use Rattle.lw_grammar.specs.GoodLines.{AreGoodLines}
 use Rattle.lw_grammar.specs.Lines.{lines}
-use Rattle.lw_script.specs.Represents.{Represents}
+use Rattle.lw_reader.specs.Represents.{Represents}
 use Rattle.lw_script.proofs.script.read_lines.Given as goal
 
 -- the reader represents good lines, and this is how far they were read: all lines give what those that are left give below

@@ -1,0 +1,3 @@
+mod Addable
+mod AreasAdded
+mod Passing

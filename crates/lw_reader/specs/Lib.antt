@@ -1,0 +1,4 @@
+pub mod CallParts
+pub mod ReaderKnows
+pub mod Represents
+pub mod LinesRead

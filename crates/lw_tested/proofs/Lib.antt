@@ -1,0 +1,6 @@
+mod AreaCounts
+mod AreasFound
+mod GzzCounts
+mod GzzFound
+mod NamedPairs
+mod NamesWith

@@ -1,0 +1,2 @@
+pub mod AreasRead
+pub mod GzzRead
