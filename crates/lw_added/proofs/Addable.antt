@@ -111,18 +111,18 @@ few_bitmaps r f c =
     omega (arith, few, same, all)
 
 -- a group's end stands after a call
-pub some_unlocked : (r : Reader) (name : List ℕ) → CanAdd r (UnlockLine name) → 0 < r.tasks.so_far
+pub some_unlocked : (r : Reader) (name : List ℕ) → CanAdd r (UnlockLine name) → 0 < r.tasks.calls_in_task
 some_unlocked r name c =
     let t = and_parts (is_lock_on name (told c.1).group) _ (tests_of r (UnlockLine name) c).group in
-    let lt : (told c.1).began < (told c.1).so_far = ltb-true _ _ t.1 in
-    let same = c.2.tasks.so_far in
+    let lt : (told c.1).calls_before_group < (told c.1).calls_in_task = ltb-true _ _ t.1 in
+    let same = c.2.tasks.calls_in_task in
     omega (arith, lt, same)
 
-pub some_released : (r : Reader) → CanAdd r ReleaseLine → 0 < r.tasks.so_far
+pub some_released : (r : Reader) → CanAdd r ReleaseLine → 0 < r.tasks.calls_in_task
 some_released r c =
     let t = and_parts (is_hold (told c.1).group) _ (tests_of r ReleaseLine c).group in
-    let lt : (told c.1).began < (told c.1).so_far = ltb-true _ _ t.1 in
-    let same = c.2.tasks.so_far in
+    let lt : (told c.1).calls_before_group < (told c.1).calls_in_task = ltb-true _ _ t.1 in
+    let same = c.2.tasks.calls_in_task in
     omega (arith, lt, same)
 
 -- a call
@@ -132,11 +132,11 @@ call_ranged r layers act c = (tests_of r (CallLine layers act) c).range
 pub call_made : (r : Reader) (layers : List (List ℕ)) (act : Act) → CanAdd r (CallLine layers act) → length layers ≡ layers_of act
 call_made r layers act c = ((here_of r (CallLine layers act) c).2).0
 
-pub call_room : (r : Reader) (layers : List (List ℕ)) (act : Act) → CanAdd r (CallLine layers act) → r.tasks.so_far < 4294967295
+pub call_room : (r : Reader) (layers : List (List ℕ)) (act : Act) → CanAdd r (CallLine layers act) → r.tasks.calls_in_task < 4294967295
 call_room r layers act c =
-    let few : (told c.1).so_far + 1 ≤ (limits_of (told c.1).version).calls = (counted c.0 (CallLine layers act ∷ c.1) c.3).calls in
+    let few : (told c.1).calls_in_task + 1 ≤ (limits_of (told c.1).version).calls = (counted c.0 (CallLine layers act ∷ c.1) c.3).calls in
     let most = calls_at_most (told c.1).version in
-    let same = c.2.tasks.so_far in
+    let same = c.2.tasks.calls_in_task in
     omega (arith, few, most, same)
 
 pub call_supers : (r : Reader) (layers : List (List ℕ)) (act : Act) → CanAdd r (CallLine layers act) → r.tasks.supers ≤ 16

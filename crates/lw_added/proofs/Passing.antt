@@ -54,7 +54,7 @@ assets_pass a above (RowLine bytes) e k = absurd (false≢true e)
 assets_pass a above (PatternLine name words) e k = absurd (false≢true e)
 assets_pass a above f e k =
     record {
-      given = k.given;
+      glyph_codes = k.glyph_codes;
       glyphs = k.glyphs;
       names = k.names;
       width = k.width;
@@ -80,13 +80,13 @@ tasks_pass t above f e k =
     record {
       tasks = k.tasks;
       names = k.names;
-      seen = k.seen;
+      names_without_slot = k.names_without_slot;
       pairs = k.pairs;
       supers = k.supers;
-      used = k.used;
+      hooks_named = k.hooks_named;
       group = k.group;
-      began = k.began;
-      so_far = k.so_far;
+      calls_before_group = k.calls_before_group;
+      calls_in_task = k.calls_in_task;
       calls = k.calls;
       groups = k.groups;
     }

@@ -123,7 +123,7 @@ screen_spelled s t above g written screen =
 record AreBase (v w h d : ℕ) (lines : List Statement) : Type 0 where
   bare : IsBare v w h d lines
   alone : IsWithoutBitmaps lines
-  given : (told lines).given ≡ nothing_told.given
+  glyph_codes : (told lines).glyph_codes ≡ nothing_told.glyph_codes
   glyphs : (code : ℕ) → (told lines).glyphs code ≡ replicate 8 0
 
 -- what holds of the versions 1 and 2 holds of that of good lines below a screen's
@@ -141,11 +141,11 @@ screen_base s above g has =
     let d = (told above).depth in
     let P : ℕ → Type 0 = λ v. AreBase v w h d (ScreenLine (pos w) (pos h) (pos d) ∷ lines_of_version v) in
     let one : IsBare 1 w h d (ScreenLine (pos w) (pos h) (pos d) ∷ []) =
-    record { version = refl; section = refl; width = refl; height = refl; depth = refl; patterns = refl; tasks = refl; names = refl; seen = refl; pairs = refl; supers = refl; hooks = refl; group = refl; so_far = refl; began = refl; calls = refl; groups = refl } in
+    record { version = refl; section = refl; width = refl; height = refl; depth = refl; patterns = refl; tasks = refl; names = refl; names_without_slot = refl; pairs = refl; supers = refl; hooks = refl; group = refl; calls_in_task = refl; calls_before_group = refl; calls = refl; groups = refl } in
     let two : IsBare 2 w h d (ScreenLine (pos w) (pos h) (pos d) ∷ LayersLine ∷ []) =
-    record { version = refl; section = refl; width = refl; height = refl; depth = refl; patterns = refl; tasks = refl; names = refl; seen = refl; pairs = refl; supers = refl; hooks = refl; group = refl; so_far = refl; began = refl; calls = refl; groups = refl } in
-    let first : P 1 = record { bare = one; alone = record { due = refl; width = refl; names = refl; made = λ rows. refl }; given = refl; glyphs = λ code. refl } in
-    let second : P 2 = record { bare = two; alone = record { due = refl; width = refl; names = refl; made = λ rows. refl }; given = refl; glyphs = λ code. refl } in
+    record { version = refl; section = refl; width = refl; height = refl; depth = refl; patterns = refl; tasks = refl; names = refl; names_without_slot = refl; pairs = refl; supers = refl; hooks = refl; group = refl; calls_in_task = refl; calls_before_group = refl; calls = refl; groups = refl } in
+    let first : P 1 = record { bare = one; alone = record { due = refl; width = refl; names = refl; made = λ rows. refl }; glyph_codes = refl; glyphs = λ code. refl } in
+    let second : P 2 = record { bare = two; alone = record { due = refl; width = refl; names = refl; made = λ rows. refl }; glyph_codes = refl; glyphs = λ code. refl } in
     by_version P first second (told above).version k.some_version k.small_version
 
 -- the glyphs over it
@@ -166,7 +166,7 @@ screened_base_spelled s t above g written has =
     let screen : List Statement = screen_of above in
     let k = screen_base s above g has in
     let glyphs : AreSpelled t (glyphs_of above) =
-    over_spelled s t above screen g written v w h d k.bare k.alone k.given (screen_spelled s t above g written has) 95 in
+    over_spelled s t above screen g written v w h d k.bare k.alone k.glyph_codes (screen_spelled s t above g written has) 95 in
     let all : AreSpelled t (kept above (glyphs_of above)) =
     kept_spelled s t v w h d (glyphs_of above) (bare_over above screen v w h d 95 k.bare) (unmapped_over above screen 95 k.alone) above g written glyphs in
     subst (AreSpelled t) (base_parts above) all
@@ -211,13 +211,13 @@ is_kept_base s above g has none =
       bitmaps = made_kept (glyphs_of above) b s above g [] (none_due above none);
       tasks = k.tasks;
       names = k.names;
-      seen = k.seen;
+      names_without_slot = k.names_without_slot;
       pairs = k.pairs;
       supers = k.supers;
       hooks = k.hooks;
       group = k.group;
-      so_far = k.so_far;
-      began = k.began;
+      calls_in_task = k.calls_in_task;
+      calls_before_group = k.calls_before_group;
       calls = k.calls;
       groups = k.groups;
     }

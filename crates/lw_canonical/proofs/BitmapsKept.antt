@@ -20,28 +20,28 @@ pub record IsBare (v w h d : ℕ) (lines : List Statement) : Type 0 where
   pub patterns : (told lines).pattern_names ≡ []
   pub tasks : (told lines).tasks ≡ []
   pub names : (told lines).names ≡ []
-  pub seen : (told lines).seen ≡ []
+  pub names_without_slot : (told lines).names_without_slot ≡ []
   pub pairs : (told lines).pairs ≡ []
   pub supers : (told lines).supers ≡ 0
-  pub hooks : (told lines).used ≡ nothing_told.used
+  pub hooks : (told lines).hooks_named ≡ nothing_told.hooks_named
   pub group : (told lines).group ≡ None
-  pub so_far : (told lines).so_far ≡ 0
-  pub began : (told lines).began ≡ 0
+  pub calls_in_task : (told lines).calls_in_task ≡ 0
+  pub calls_before_group : (told lines).calls_before_group ≡ 0
   pub calls : (told lines).calls ≡ []
   pub groups : (told lines).groups ≡ []
 
 -- so do they with a further glyph, bitmap or row
 pub bare_glyph : (v w h d : ℕ) (lines : List Statement) (code : ℕ) (rows : List ℕ) → IsBare v w h d lines → IsBare v w h d (GlyphLine code rows ∷ lines)
 bare_glyph v w h d lines code rows k =
-    record { version = k.version; section = k.section; width = k.width; height = k.height; depth = k.depth; patterns = k.patterns; tasks = k.tasks; names = k.names; seen = k.seen; pairs = k.pairs; supers = k.supers; hooks = k.hooks; group = k.group; so_far = k.so_far; began = k.began; calls = k.calls; groups = k.groups }
+    record { version = k.version; section = k.section; width = k.width; height = k.height; depth = k.depth; patterns = k.patterns; tasks = k.tasks; names = k.names; names_without_slot = k.names_without_slot; pairs = k.pairs; supers = k.supers; hooks = k.hooks; group = k.group; calls_in_task = k.calls_in_task; calls_before_group = k.calls_before_group; calls = k.calls; groups = k.groups }
 
 bare_bitmap : (v w h d : ℕ) (lines : List Statement) (name : List ℕ) (x y z : ℤ) → IsBare v w h d lines → IsBare v w h d (BitmapLine name x y z ∷ lines)
 bare_bitmap v w h d lines name x y z k =
-    record { version = k.version; section = k.section; width = k.width; height = k.height; depth = k.depth; patterns = k.patterns; tasks = k.tasks; names = k.names; seen = k.seen; pairs = k.pairs; supers = k.supers; hooks = k.hooks; group = k.group; so_far = k.so_far; began = k.began; calls = k.calls; groups = k.groups }
+    record { version = k.version; section = k.section; width = k.width; height = k.height; depth = k.depth; patterns = k.patterns; tasks = k.tasks; names = k.names; names_without_slot = k.names_without_slot; pairs = k.pairs; supers = k.supers; hooks = k.hooks; group = k.group; calls_in_task = k.calls_in_task; calls_before_group = k.calls_before_group; calls = k.calls; groups = k.groups }
 
 bare_row : (v w h d : ℕ) (lines : List Statement) (bytes : List ℕ) → IsBare v w h d lines → IsBare v w h d (RowLine bytes ∷ lines)
 bare_row v w h d lines bytes k =
-    record { version = k.version; section = k.section; width = k.width; height = k.height; depth = k.depth; patterns = k.patterns; tasks = k.tasks; names = k.names; seen = k.seen; pairs = k.pairs; supers = k.supers; hooks = k.hooks; group = k.group; so_far = k.so_far; began = k.began; calls = k.calls; groups = k.groups }
+    record { version = k.version; section = k.section; width = k.width; height = k.height; depth = k.depth; patterns = k.patterns; tasks = k.tasks; names = k.names; names_without_slot = k.names_without_slot; pairs = k.pairs; supers = k.supers; hooks = k.hooks; group = k.group; calls_in_task = k.calls_in_task; calls_before_group = k.calls_before_group; calls = k.calls; groups = k.groups }
 
 -- Lines without bitmaps.
 pub record IsWithoutBitmaps (lines : List Statement) : Type 0 where

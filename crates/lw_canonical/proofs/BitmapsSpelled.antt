@@ -17,7 +17,7 @@ use Rattle.std.proofs.lemmas.Bool.{eqb-true, eq-eqb}
 -- lines that tell of few bitmaps and of nothing else are few, whichever the version
 pub few_bare : (v w h d : ℕ) (lines : List Statement) → IsBare v w h d lines → (limits : Limits) → length (told lines).bitmap_names ≤ 16 → are_few limits (told lines) ≡ true
 few_bare v w h d lines k limits n =
-    few_by_bitmaps limits (told lines) k.tasks n k.patterns k.names k.supers k.so_far
+    few_by_bitmaps limits (told lines) k.tasks n k.patterns k.names k.supers k.calls_in_task
 
 -- after them something is due
 pub due_bare : (v w h d : ℕ) (lines : List Statement) → IsBare v w h d lines → is_nothing_due (told lines).section ≡ false

@@ -1,6 +1,6 @@
 -- The line of the call that a call line spells is this line.
-use Rattle.std.proofs.Common.{◌≡◌, ℕ, zero, suc, true, List, [], ◌∷◌, length, map, slice_index, slice_index_or, ℤ, pos, negsuc, ◌+ℤ◌, ◌-ℤ◌, unsigned_abs, Option, Some, None, option_map, refl, sym, ap, ◌∙◌, arith}
-use Rattle.lw_region.specs.Rectangle.{within}
+use Rattle.std.proofs.Common.{◌≡◌, ℕ, zero, suc, true, List, [], ◌∷◌, length, map, slice_index, slice_index_or, ℤ, pos, negsuc, ◌+ℤ◌, ◌-ℤ◌, unsigned_abs, Option, Some, None, option_map, refl, sym, ap, ◌∙◌, arith, ap₂}
+use Rattle.lw_region.specs.Rectangle.{within, Rectangle}
 use Rattle.lw_calls.specs.declared.make.Kind.{Kind}
 use Rattle.lw_calls.specs.declared.make.Kind.TheVariants.{Simple, Smart, SuperBitmap}
 use Rattle.lw_calls.specs.Limits.{rect_fits}
@@ -9,9 +9,9 @@ use Rattle.lw_grammar.specs.declared.verb.NumberVerb.{NumberVerb}
 use Rattle.lw_grammar.specs.declared.verb.NumberVerb.TheVariants.{APen as APenVerb}
 use Rattle.lw_grammar.specs.declared.verb.PairVerb.TheVariants.{Move as MoveVerb}
 use Rattle.lw_grammar.specs.declared.verb.TextVerb.TheVariants.{Text as TextOf}
-use Rattle.lw_grammar.specs.Statements.{NewLayer, Act, NumberAct, PairAct, TextAct, BareAct, RegRectAct, RegPairAct, RegClearAct, CreateAct, OpenAct, InFrontAct, WhichAct, PutAct, BlitAct, CallLine, four, is_hook_number, is_own_size, is_new_layer_in_range, place_and_size_fit, greatest_number, is_act_in_range, Four, bounds}
-use Rattle.lw_grammar.specs.Told.{place_among, created_make, opened_make, number_call, spelled_call}
-use Rattle.lw_canonical.specs.Canonical.{created_layer, opened_layer, line_of_call}
+use Rattle.lw_grammar.specs.Statements.{NewLayer, Act, NumberAct, PairAct, TextAct, BareAct, RegRectAct, RegPairAct, RegClearAct, CreateAct, OpenAct, InFrontAct, WhichAct, PutAct, BlitAct, CallLine, is_hook_number, is_own_size, is_new_layer_in_range, greatest_number, is_act_in_range, rectangle, box_fits}
+use Rattle.lw_grammar.specs.Told.{place_among, created_make, number_call, spelled_call, make_of}
+use Rattle.lw_canonical.specs.Canonical.{line_of_call, new_layer_of, created_bounds}
 use Rattle.lw_grammar.specs.GoodLines.{IsNewLayerOf, IsStatementMade}
 use Rattle.std.proofs.lemmas.Int.{ints}
 use Rattle.std.proofs.lemmas.Bool.{false≢true, and_parts}
@@ -55,32 +55,25 @@ own_back SuperBitmap a m h =
     (number_back 1 a.bits_w 2048 sides.0, number_back 1 a.bits_h 2048 sides.1)
 
 -- a layer that is asked for, by its parts
-abbrev layer_with : NewLayer → Four → Option ℤ → ℤ → ℤ → NewLayer
-layer_with a numbers hook w h = record { kind = a.kind; place = a.place; numbers = numbers; backdrop = a.backdrop; hook = hook; bits_w = w; bits_h = h }
+abbrev layer_with : NewLayer → Option ℤ → ℤ → ℤ → NewLayer
+layer_with a hook w h = record { kind = a.kind; place = a.place; backdrop = a.backdrop; hook = hook; bits_w = w; bits_h = h }
 
-layer_same : (a : NewLayer) (numbers : Four) (hook : Option ℤ) (w h : ℤ) → numbers ≡ a.numbers → hook ≡ a.hook → w ≡ a.bits_w → h ≡ a.bits_h → layer_with a numbers hook w h ≡ a
-layer_same a numbers hook w h b k c d =
-    ap (λ (q : Four). layer_with a q hook w h) b ∙ ap (λ (q : Option ℤ). layer_with a a.numbers q w h) k ∙ ap (λ (q : ℤ). layer_with a a.numbers a.hook q h) c ∙ ap (λ (q : ℤ). layer_with a a.numbers a.hook a.bits_w q) d
+layer_same : (a : NewLayer) (hook : Option ℤ) (w h : ℤ) → hook ≡ a.hook → w ≡ a.bits_w → h ≡ a.bits_h → layer_with a hook w h ≡ a
+layer_same a hook w h k c d =
+    ap (λ (q : Option ℤ). layer_with a q w h) k ∙ ap (λ (q : ℤ). layer_with a a.hook q h) c ∙ ap (λ (q : ℤ). layer_with a a.hook a.bits_w q) d
 
--- its bounds
+layer_back : (a : NewLayer) (x y w h : ℤ) → IsNewLayerOf a.kind a → is_new_layer_in_range a ≡ true → new_layer_of (make_of a x y w h) ≡ a
+layer_back a x y w h m e =
+    let halves = and_parts (is_hook_number a.hook) _ e in
+    let own = own_back a.kind a m halves.1 in
+    layer_same a _ _ _ (hook_back a.hook halves.0) own.0 own.1
+
+-- the bounds of a creation
 bound_back : (low high : ℤ) → (low +ℤ ((high -ℤ low) +ℤ pos 1)) -ℤ pos 1 ≡ high
 bound_back low high = omega (arith, ints)
 
-numbers_same : (r : Four) (c d : ℤ) → c ≡ r.third → d ≡ r.fourth → four r.first r.second c d ≡ r
-numbers_same r c d e f = ap (λ (q : ℤ). four r.first r.second q d) e ∙ ap (λ (q : ℤ). four r.first r.second r.third q) f
-
--- what a creation asks for, and what an opening does
-created_back : (a : NewLayer) → IsNewLayerOf a.kind a → is_new_layer_in_range a ≡ true → created_layer (created_make a) ≡ a
-created_back a m h =
-    let halves = and_parts (is_hook_number a.hook) _ h in
-    let own = own_back a.kind a m halves.1 in
-    layer_same a _ _ _ _ (numbers_same a.numbers _ _ (bound_back a.numbers.first a.numbers.third) (bound_back a.numbers.second a.numbers.fourth)) (hook_back a.hook halves.0) own.0 own.1
-
-opened_back : (a : NewLayer) → IsNewLayerOf a.kind a → is_new_layer_in_range a ≡ true → opened_layer (opened_make a) ≡ a
-opened_back a m h =
-    let halves = and_parts (is_hook_number a.hook) _ h in
-    let own = own_back a.kind a m halves.1 in
-    layer_same a _ _ _ _ refl (hook_back a.hook halves.0) own.0 own.1
+bounds_back : (r : Rectangle) (a : NewLayer) → created_bounds (created_make r a) ≡ r
+bounds_back r a = ap₂ (λ (q s : ℤ). rectangle r.min_x r.min_y q s) (bound_back r.min_x r.max_x) (bound_back r.min_y r.max_y)
 
 -- the bitmap of a blit from a bitmap is found by its place among those above the line
 abbrev pub IsBitmapBack : List (List ℕ) → List (List ℕ) → Act → Type 0
@@ -105,12 +98,12 @@ line_back names bitmaps among layers (RegClearAct r) m h b slots e =
 line_back names bitmaps among layers (WhichAct x y) m h b slots e = ap (λ ls. CallLine ls (WhichAct x y)) (sym (nil_from_length layers m.0))
 line_back names bitmaps among layers InFrontAct m h b slots e = ap (λ ls. CallLine ls InFrontAct) (two_back names slots layers e m.0)
 line_back names bitmaps among layers (BlitAct g) m h b slots e = ap (λ ls. CallLine ls (BlitAct g)) (two_back names slots layers e m.0)
-line_back names bitmaps among layers (CreateAct a) m h b slots e =
-    let halves = and_parts (rect_fits (bounds a.numbers)) _ h in
-    ap (λ k. CallLine (slice_index_or names (slice_index slots 0) [] ∷ []) (CreateAct k)) (created_back a m.1 halves.1) ∙ ap (λ ls. CallLine ls (CreateAct a)) (one_back names slots layers e m.0)
-line_back names bitmaps among layers (OpenAct a framed nocare classes title) m h b slots e =
-    let halves = and_parts (place_and_size_fit a.numbers) _ h in
-    ap (λ k. CallLine (slice_index_or names (slice_index slots 0) [] ∷ []) (OpenAct k framed nocare classes title)) (opened_back a m.1.0 halves.1) ∙ ap (λ ls. CallLine ls (OpenAct a framed nocare classes title)) (one_back names slots layers e m.0)
+line_back names bitmaps among layers (CreateAct rect a) m h b slots e =
+    let halves = and_parts (rect_fits rect) _ h in
+    ap₂ (λ q k. CallLine (slice_index_or names (slice_index slots 0) [] ∷ []) (CreateAct q k)) (bounds_back rect a) (layer_back a rect.min_x rect.min_y ((rect.max_x -ℤ rect.min_x) +ℤ pos 1) ((rect.max_y -ℤ rect.min_y) +ℤ pos 1) m.1 halves.1) ∙ ap (λ ls. CallLine ls (CreateAct rect a)) (one_back names slots layers e m.0)
+line_back names bitmaps among layers (OpenAct at a framed nocare classes title) m h b slots e =
+    let halves = and_parts (box_fits at) _ h in
+    ap (λ k. CallLine (slice_index_or names (slice_index slots 0) [] ∷ []) (OpenAct at k framed nocare classes title)) (layer_back a at.x at.y at.w at.h m.1.0 halves.1) ∙ ap (λ ls. CallLine ls (OpenAct at a framed nocare classes title)) (one_back names slots layers e m.0)
 line_back names bitmaps among layers (NumberAct verb n) m h b slots e =
     number_line_back names bitmaps verb (slice_index slots 0) n (number_back 0 n (greatest_number verb) h) ∙ ap (λ ls. CallLine ls (NumberAct verb n)) (one_back names slots layers e m.0)
 line_back names bitmaps among layers (BareAct CloseVerb) m h b slots e = ap (λ ls. CallLine ls (BareAct CloseVerb)) (one_back names slots layers e m.0)

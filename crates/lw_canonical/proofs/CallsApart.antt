@@ -21,10 +21,10 @@ use Rattle.lw_gzz.specs.Together.{may_part, HasPairBox, IsPairBox, puts_before}
 use Rattle.lw_gzz.proofs.Spelling.{exact}
 use Rattle.lw_grammar.specs.declared.verb.BareVerb.TheVariants.{Close as CloseVerb, Front as FrontVerb, Behind as BehindVerb, Activate as ActivateVerb}
 use Rattle.lw_grammar.specs.declared.verb.PairVerb.TheVariants.{Move as MoveVerb, Size as SizeVerb}
-use Rattle.lw_grammar.specs.Statements.{BareAct, PairAct, CreateAct, OpenAct, InFrontAct, BoxAct, Line, four, is_gzz_box, is_gzz_in_range}
+use Rattle.lw_grammar.specs.Statements.{BareAct, PairAct, CreateAct, OpenAct, InFrontAct, BoxAct, Line, is_gzz_box, is_gzz_in_range, box}
 use Rattle.lw_grammar.specs.Told.{NamedPair, pair_among}
 use Rattle.lw_grammar.specs.Script.{parts_pair, is_outer, comes_between}
-use Rattle.lw_canonical.specs.Canonical.{line_of_call, created_layer, opened_layer, or_word, word_among, word_held, act_of_word, lines_opening, lines_before, lines_after, lines_at, lines_from}
+use Rattle.lw_canonical.specs.Canonical.{line_of_call, or_word, word_among, word_held, act_of_word, lines_opening, lines_before, lines_after, lines_at, lines_from, new_layer_of, created_bounds, opened_box}
 use Rattle.lw_canonical.proofs.FreeCalls.{is_free_call, not_so, name_at, other_slot, AreFoundPairs, call_is_free}
 use Rattle.lw_canonical.proofs.GzzWords.{IsIn}
 use Rattle.lw_canonical.proofs.LinesApart.{AreEach, each_left, each_right}
@@ -34,15 +34,15 @@ use Rattle.std.proofs.lemmas.Bool.{and_parts, or_parts, eq-eqb}
 
 -- The call whose line parts none of these windows is free of all of them.
 pub line_free : (names bitmaps : List (List ℕ)) (qs : List NamedPair) (c : Call) → AreFoundPairs names qs → parts_pair qs (line_of_call names bitmaps c) ≡ false → is_free_call (map (pair_among names) qs) c ≡ true
-line_free names bitmaps qs (Create s m) f h = call_is_free names bitmaps qs (s ∷ []) (CreateAct (created_layer m)) refl f h
-line_free names bitmaps qs (OpenWindow s m framed nocare asks title) f h = call_is_free names bitmaps qs (s ∷ []) (OpenAct (opened_layer m) framed nocare asks title) refl f h
+line_free names bitmaps qs (Create s m) f h = call_is_free names bitmaps qs (s ∷ []) (CreateAct (created_bounds m) (new_layer_of m)) refl f h
+line_free names bitmaps qs (OpenWindow s m framed nocare asks title) f h = call_is_free names bitmaps qs (s ∷ []) (OpenAct (opened_box m) (new_layer_of m) framed nocare asks title) refl f h
 line_free names bitmaps qs (Close s) f h = call_is_free names bitmaps qs (s ∷ []) (BareAct CloseVerb) refl f h
 line_free names bitmaps qs (ToFront s) f h = call_is_free names bitmaps qs (s ∷ []) (BareAct FrontVerb) refl f h
 line_free names bitmaps qs (ToBack s) f h = call_is_free names bitmaps qs (s ∷ []) (BareAct BehindVerb) refl f h
 line_free names bitmaps qs (InFrontOf s t) f h = call_is_free names bitmaps qs (s ∷ t ∷ []) InFrontAct refl f h
 line_free names bitmaps qs (MoveBy s dx dy) f h = call_is_free names bitmaps qs (s ∷ []) (PairAct MoveVerb dx dy) refl f h
 line_free names bitmaps qs (SizeBy s dw dh) f h = call_is_free names bitmaps qs (s ∷ []) (PairAct SizeVerb dw dh) refl f h
-line_free names bitmaps qs (SetBox s x y w b) f h = call_is_free names bitmaps qs (s ∷ []) (BoxAct (four x y w b)) refl f h
+line_free names bitmaps qs (SetBox s x y w b) f h = call_is_free names bitmaps qs (s ∷ []) (BoxAct (box x y w b)) refl f h
 line_free names bitmaps qs (Activate s) f h = call_is_free names bitmaps qs (s ∷ []) (BareAct ActivateVerb) refl f h
 line_free names bitmaps qs c f h = go (map (pair_among names) qs)
   where
@@ -104,7 +104,7 @@ unfolding within
 parted low z high d = (grind (arith, ints, nat_tests), grind (arith, ints, nat_tests))
 
 -- The box of a word is one that a pair may have, where that of its line is.
-box_of : (s : Sizes) (x y w h : ℤ) → is_gzz_box s.width s.height (four x y w h) ≡ true → IsPairBox s x y w h
+box_of : (s : Sizes) (x y w h : ℤ) → is_gzz_box s.width s.height (box x y w h) ≡ true → IsPairBox s x y w h
 box_of s x y w h e =
     let corner = and_parts (coordinates_fit x y) _ e in
     let rest = and_parts (within (pos 9) w (pos s.width) && within (pos 14) h (pos s.height)) _ corner.1 in

@@ -15,7 +15,7 @@ use Rattle.lw_grammar.specs.declared.verb.PairVerb.TheVariants.{Move as MoveVerb
 use Rattle.lw_grammar.specs.declared.verb.TextVerb.TheVariants.{Text as TextOf}
 use Rattle.lw_grammar.specs.Statements.{Act, BareAct, NumberAct, PairAct, TextAct, CreateAct, OpenAct, InFrontAct, BoxAct, CallLine, layers_of}
 use Rattle.lw_grammar.specs.Told.{NamedPair, place_among, spelled_call, pair_among}
-use Rattle.lw_grammar.specs.Script.{is_outer, is_inner, is_paired, is_arranging, is_activating, parts_pair}
+use Rattle.lw_grammar.specs.Script.{is_outer, is_inner, is_paired, is_placing, is_activating, parts_pair}
 use Rattle.lw_grammar.proofs.ScriptNames.{same_name}
 use Rattle.lw_canonical.specs.Canonical.{or_word, word_among}
 use Rattle.std.proofs.lemmas.Bool.{true≢false, false≢true, ne_eqb, and_parts, and_from, or_parts, or_from}
@@ -78,7 +78,7 @@ beside names q k found h =
 -- The act parts the window, where its layers are those of these slots.
 abbrev pub parts_one : List (List ℕ) → NamedPair → List ℕ → Act → Bool
 parts_one names q slots act =
-    (is_arranging act && list_any (is_beside names q) slots) || (is_activating act && list_any (λ k. bytes_eq (name_at names k) q.inner) slots)
+    (is_placing act && list_any (is_beside names q) slots) || (is_activating act && list_any (λ k. bytes_eq (name_at names k) q.inner) slots)
 
 -- what an act on one layer, or on two, tells of them
 one_slot : (P : ℕ → Bool) (slots : List ℕ) → length slots ≡ 1 → list_any P slots ≡ false → P (slice_index slots 0) ≡ false
@@ -106,8 +106,8 @@ one_free names bitmaps q slots (PairAct SizeVerb x y) n f h = beside names q (sl
 one_free names bitmaps q slots (PairAct verb x y) n f h = refl
 one_free names bitmaps q slots (TextAct TextOf text) n f h = refl
 one_free names bitmaps q slots (TextAct verb text) n f h = refl
-one_free names bitmaps q slots (CreateAct layer) n f h = beside names q (slice_index slots 0) f (one_slot (is_beside names q) slots n (or_parts (list_any (is_beside names q) slots) _ h).0)
-one_free names bitmaps q slots (OpenAct layer framed nocare classes title) n f h = beside names q (slice_index slots 0) f (one_slot (is_beside names q) slots n (or_parts (list_any (is_beside names q) slots) _ h).0)
+one_free names bitmaps q slots (CreateAct rect layer) n f h = beside names q (slice_index slots 0) f (one_slot (is_beside names q) slots n (or_parts (list_any (is_beside names q) slots) _ h).0)
+one_free names bitmaps q slots (OpenAct at layer framed nocare classes title) n f h = beside names q (slice_index slots 0) f (one_slot (is_beside names q) slots n (or_parts (list_any (is_beside names q) slots) _ h).0)
 one_free names bitmaps q slots (BoxAct r) n f h = beside names q (slice_index slots 0) f (one_slot (is_beside names q) slots n (or_parts (list_any (is_beside names q) slots) _ h).0)
 one_free names bitmaps q slots InFrontAct n f h =
     let both = two_slots (is_beside names q) slots n (or_parts (list_any (is_beside names q) slots) _ h).0 in
@@ -145,8 +145,8 @@ if_asked false x y z f h = (refl, refl)
 
 parts_split : (names : List (List ℕ)) (q : NamedPair) (qs : List NamedPair) (slots : List ℕ) (act : Act) → parts_pair (q ∷ qs) (CallLine (map (name_at names) slots) act) ≡ false → (parts_one names q slots act ≡ false) × (parts_pair qs (CallLine (map (name_at names) slots) act) ≡ false)
 parts_split names q qs slots act h =
-    let a = or_parts (is_arranging act && list_any (is_paired (q ∷ qs)) (map (name_at names) slots)) _ h in
-    let first = if_asked (is_arranging act) _ (list_any (is_beside names q) slots) (list_any (is_paired qs) (map (name_at names) slots)) (paired_split names q qs slots) a.0 in
+    let a = or_parts (is_placing act && list_any (is_paired (q ∷ qs)) (map (name_at names) slots)) _ h in
+    let first = if_asked (is_placing act) _ (list_any (is_beside names q) slots) (list_any (is_paired qs) (map (name_at names) slots)) (paired_split names q qs slots) a.0 in
     let second = if_asked (is_activating act) _ (list_any (λ k. bytes_eq (name_at names k) q.inner) slots) (list_any (is_inner qs) (map (name_at names) slots)) (inner_split names q qs slots) a.1 in
     (or_from _ _ first.0 second.0, or_from _ _ first.1 second.1)
 

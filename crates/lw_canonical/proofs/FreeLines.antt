@@ -3,7 +3,7 @@ use Rattle.std.proofs.Common.{◌≡◌, ℕ, Bool, true, false, ◌&&◌, ◌||
 use Rattle.std.specs.List.{list_any}
 use Rattle.lw_grammar.specs.Statements.{Act, Statement, CallLine, LockLine, UnlockLine, PairMade, GzzAct, OpenGzz, BoxGzz, FrontGzz, BehindGzz, InFrontGzz, CloseGzz, Line, StatementLine, AreaLine, GzzLine}
 use Rattle.lw_grammar.specs.Told.{NamedPair, Told, gzz_lines, told}
-use Rattle.lw_grammar.specs.Script.{Setting, is_outer, is_inner, is_paired, is_arranging, is_activating, parts_pair, stands_above, added}
+use Rattle.lw_grammar.specs.Script.{Setting, is_outer, is_inner, is_paired, is_placing, is_activating, parts_pair, stands_above, added}
 use Rattle.lw_grammar.proofs.ScriptNames.{equal_names, any_kept, AreNamed, all_named}
 use Rattle.lw_grammar.proofs.GzzLines.{gzz_passed}
 use Rattle.lw_canonical.specs.Spelling.{written}
@@ -97,7 +97,7 @@ paired_same names pairs q (l ∷ ls) new h =
 parts_same : (names : List (List ℕ)) (pairs : List NamedPair) (q : NamedPair) (layers : List (List ℕ)) (act : Act) → IsNew names q → AreNamed names layers → parts_pair (pairs ++ q ∷ []) (CallLine layers act) ≡ parts_pair pairs (CallLine layers act)
 parts_same names pairs q layers act new h =
     let k = paired_same names pairs q layers new h in
-    ap₂ (λ (a b : Bool). (is_arranging act && a) || (is_activating act && b)) k.0 k.1
+    ap₂ (λ (a b : Bool). (is_placing act && a) || (is_activating act && b)) k.0 k.1
 
 still_free : (names : List (List ℕ)) (pairs : List NamedPair) (q : NamedPair) (ls : List Line) → IsNew names q → AreLayersNamed names ls → AreFree pairs ls → AreFree (pairs ++ q ∷ []) ls
 still_free names pairs q [] new h k = tt

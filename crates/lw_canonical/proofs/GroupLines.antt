@@ -136,7 +136,7 @@ open_group_lines (Some Held) = StatementLine HoldLine ∷ []
 
 -- those before call number n
 abbrev pub open_group_before : Option OpenGroup → ℕ → ℕ → List Line
-open_group_before o began n = cond (began == n) (open_group_lines o) []
+open_group_before o calls_before_group n = cond (calls_before_group == n) (open_group_lines o) []
 
 -- the same lines, whatever the test
 cond_none : (t : Bool) (xs : List Line) → cond t xs xs ≡ xs
@@ -160,8 +160,8 @@ module _ (p : Plan) where
 
   -- a task's lines so far, where this group is open and began before its call of this number, or none is
   abbrev pub lines_so_far : Option OpenGroup → ℕ → List Call → List Group → List Line
-  lines_so_far o began calls groups =
-      woven (λ m. lines_before p calls groups m ++ open_group_before o began m) (lines_at p calls groups) (lines_after p calls groups) 0 calls ++ open_group_before o began (length calls)
+  lines_so_far o calls_before_group calls groups =
+      woven (λ m. lines_before p calls groups m ++ open_group_before o calls_before_group m) (lines_at p calls groups) (lines_after p calls groups) 0 calls ++ open_group_before o calls_before_group (length calls)
 
   -- further calls leave what stands before, at and after the others
   before_kept : (calls more : List Call) (gs : List Group) (m : ℕ) → AreInside (length calls) gs → lines_before p (calls ++ more) gs m ≡ lines_before p calls gs m
@@ -229,16 +229,16 @@ module _ (p : Plan) where
       no_more false false = refl
 
   -- nothing was opened where no group is open
-  pub none_before : (began m : ℕ) → open_group_before None began m ≡ []
-  none_before began m = cond_none (began == m) []
+  pub none_before : (calls_before_group m : ℕ) → open_group_before None calls_before_group m ≡ []
+  none_before calls_before_group m = cond_none (calls_before_group == m) []
 
   -- The lines of one call more, where what stands at the others is the same.
-  more_line : (o q : Option OpenGroup) (began now : ℕ) (calls : List Call) (groups gs : List Group) (c : Call) (f : Statement) → line_of_call p.slot_names p.bitmap_names c ≡ f → ((m : ℕ) → m < length calls → lines_before p (calls ++ c ∷ []) gs m ++ open_group_before q now m ≡ lines_before p calls groups m ++ open_group_before o began m) → lines_before p (calls ++ c ∷ []) gs (length calls) ++ open_group_before q now (length calls) ≡ open_group_before o began (length calls) → ((m : ℕ) (x : Call) → m < length calls → lines_at p (calls ++ c ∷ []) gs m x ≡ lines_at p calls groups m x) → lines_at p (calls ++ c ∷ []) gs (length calls) c ≡ StatementLine (line_of_call p.slot_names p.bitmap_names c) ∷ [] → ((m : ℕ) → m < length calls → lines_after p (calls ++ c ∷ []) gs m ≡ lines_after p calls groups m) → lines_after p (calls ++ c ∷ []) gs (length calls) ≡ [] → open_group_before q now (length calls + 1) ≡ [] → lines_so_far q now (calls ++ c ∷ []) gs ≡ lines_so_far o began calls groups ++ StatementLine f ∷ []
-  more_line o q began now calls groups gs c f line before first middle own behind last end =
+  more_line : (o q : Option OpenGroup) (calls_before_group now : ℕ) (calls : List Call) (groups gs : List Group) (c : Call) (f : Statement) → line_of_call p.slot_names p.bitmap_names c ≡ f → ((m : ℕ) → m < length calls → lines_before p (calls ++ c ∷ []) gs m ++ open_group_before q now m ≡ lines_before p calls groups m ++ open_group_before o calls_before_group m) → lines_before p (calls ++ c ∷ []) gs (length calls) ++ open_group_before q now (length calls) ≡ open_group_before o calls_before_group (length calls) → ((m : ℕ) (x : Call) → m < length calls → lines_at p (calls ++ c ∷ []) gs m x ≡ lines_at p calls groups m x) → lines_at p (calls ++ c ∷ []) gs (length calls) c ≡ StatementLine (line_of_call p.slot_names p.bitmap_names c) ∷ [] → ((m : ℕ) → m < length calls → lines_after p (calls ++ c ∷ []) gs m ≡ lines_after p calls groups m) → lines_after p (calls ++ c ∷ []) gs (length calls) ≡ [] → open_group_before q now (length calls + 1) ≡ [] → lines_so_far q now (calls ++ c ∷ []) gs ≡ lines_so_far o calls_before_group calls groups ++ StatementLine f ∷ []
+  more_line o q calls_before_group now calls groups gs c f line before first middle own behind last end =
       let a : ℕ → List Line = λ m. lines_before p (calls ++ c ∷ []) gs m ++ open_group_before q now m in
-      let b : ℕ → List Line = λ m. lines_before p calls groups m ++ open_group_before o began m in
+      let b : ℕ → List Line = λ m. lines_before p calls groups m ++ open_group_before o calls_before_group m in
       let old : List Line = woven b (lines_at p calls groups) (lines_after p calls groups) 0 calls in
-      let opened : List Line = open_group_before o began (length calls) in
+      let opened : List Line = open_group_before o calls_before_group (length calls) in
       let pushed = woven_push a (lines_at p (calls ++ c ∷ []) gs) (lines_after p (calls ++ c ∷ []) gs) 0 calls c (length calls) (omega arith) in
       let same : woven a (lines_at p (calls ++ c ∷ []) gs) (lines_after p (calls ++ c ∷ []) gs) 0 calls ≡ old = woven_same a b (lines_at p (calls ++ c ∷ []) gs) (lines_at p calls groups) (lines_after p (calls ++ c ∷ []) gs) (lines_after p calls groups) 0 calls (λ m low high. before m (omega arith)) (λ m x low high. middle m x (omega arith)) (λ m low high. behind m (omega arith)) in
       let mine : lines_at p (calls ++ c ∷ []) gs (length calls) c ≡ StatementLine f ∷ [] = own ∙ ap (λ (g : Statement). StatementLine g ∷ []) line in
@@ -248,13 +248,13 @@ module _ (p : Plan) where
       ap₂ (λ (x y : List Line). x ++ y) (pushed ∙ ap₂ (λ (x y : List Line). x ++ y) same here) tail ∙ append-nil (old ++ (opened ++ StatementLine f ∷ [])) ∙ sym (append_assoc old opened (StatementLine f ∷ []))
 
   -- A group begins at the next call.
-  pub group_begun : (l : OpenGroup) (began : ℕ) (calls : List Call) (groups : List Group) → lines_so_far (Some l) (length calls) calls groups ≡ lines_so_far None began calls groups ++ open_group_lines (Some l)
-  group_begun l began calls groups =
+  pub group_begun : (l : OpenGroup) (calls_before_group : ℕ) (calls : List Call) (groups : List Group) → lines_so_far (Some l) (length calls) calls groups ≡ lines_so_far None calls_before_group calls groups ++ open_group_lines (Some l)
+  group_begun l calls_before_group calls groups =
       let a : ℕ → List Line = λ m. lines_before p calls groups m ++ open_group_before (Some l) (length calls) m in
-      let b : ℕ → List Line = λ m. lines_before p calls groups m ++ open_group_before None began m in
+      let b : ℕ → List Line = λ m. lines_before p calls groups m ++ open_group_before None calls_before_group m in
       let old : List Line = woven b (lines_at p calls groups) (lines_after p calls groups) 0 calls in
-      let same : woven a (lines_at p calls groups) (lines_after p calls groups) 0 calls ≡ old = woven_same a b (lines_at p calls groups) (lines_at p calls groups) (lines_after p calls groups) (lines_after p calls groups) 0 calls (λ m low high. ap (λ (t : List Line). lines_before p calls groups m ++ t) (if_apart (length calls) m (open_group_lines (Some l)) (λ e. omega arith) ∙ sym (none_before began m))) (λ m x low high. refl) (λ m low high. refl) in
-      ap₂ (λ (x y : List Line). x ++ y) same (if_same (length calls) (length calls) (open_group_lines (Some l)) refl) ∙ ap (λ (t : List Line). t ++ open_group_lines (Some l)) (sym (ap (λ (t : List Line). old ++ t) (none_before began (length calls)) ∙ append-nil old))
+      let same : woven a (lines_at p calls groups) (lines_after p calls groups) 0 calls ≡ old = woven_same a b (lines_at p calls groups) (lines_at p calls groups) (lines_after p calls groups) (lines_after p calls groups) 0 calls (λ m low high. ap (λ (t : List Line). lines_before p calls groups m ++ t) (if_apart (length calls) m (open_group_lines (Some l)) (λ e. omega arith) ∙ sym (none_before calls_before_group m))) (λ m x low high. refl) (λ m low high. refl) in
+      ap₂ (λ (x y : List Line). x ++ y) same (if_same (length calls) (length calls) (open_group_lines (Some l)) refl) ∙ ap (λ (t : List Line). t ++ open_group_lines (Some l)) (sym (ap (λ (t : List Line). old ++ t) (none_before calls_before_group (length calls)) ∙ append-nil old))
 
   -- The open group, which stands for no word, ends with the last call.
   pub group_ended : (o : Option OpenGroup) (calls : List Call) (groups : List Group) (g : Group) (more : List Line) → suc g.last ≡ length calls → g.first < length calls → word_for p.pairs calls g ≡ None → opening_lines p.slot_names g.hold (is_update calls g) ≡ open_group_lines o → closing_lines p.slot_names g.hold (is_update calls g) ≡ more → lines_so_far None g.first calls (groups ++ g ∷ []) ≡ lines_so_far o g.first calls groups ++ more
@@ -273,16 +273,16 @@ module _ (p : Plan) where
       ap₂ (λ (x y : List Line). x ++ y) (same ∙ last) (none_before g.first (length calls)) ∙ append-nil (old ++ more) ∙ ap (λ (t : List Line). t ++ more) (sym (ap (λ (t : List Line). old ++ t) off ∙ append-nil old))
 
   -- Where no group is open, the lines so far are those of the calls and groups.
-  pub lines_closed : (began : ℕ) (calls : List Call) (groups : List Group) → lines_so_far None began calls groups ≡ closed_lines calls groups
-  lines_closed began calls groups =
-      let a : ℕ → List Line = λ m. lines_before p calls groups m ++ open_group_before None began m in
-      let same = woven_same a (lines_before p calls groups) (lines_at p calls groups) (lines_at p calls groups) (lines_after p calls groups) (lines_after p calls groups) 0 calls (λ m low high. ap (λ (t : List Line). lines_before p calls groups m ++ t) (none_before began m) ∙ append-nil _) (λ m x low high. refl) (λ m low high. refl) in
-      ap₂ (λ (x y : List Line). x ++ y) same (none_before began (length calls)) ∙ append-nil _
+  pub lines_closed : (calls_before_group : ℕ) (calls : List Call) (groups : List Group) → lines_so_far None calls_before_group calls groups ≡ closed_lines calls groups
+  lines_closed calls_before_group calls groups =
+      let a : ℕ → List Line = λ m. lines_before p calls groups m ++ open_group_before None calls_before_group m in
+      let same = woven_same a (lines_before p calls groups) (lines_at p calls groups) (lines_at p calls groups) (lines_after p calls groups) (lines_after p calls groups) 0 calls (λ m low high. ap (λ (t : List Line). lines_before p calls groups m ++ t) (none_before calls_before_group m) ∙ append-nil _) (λ m x low high. refl) (λ m low high. refl) in
+      ap₂ (λ (x y : List Line). x ++ y) same (none_before calls_before_group (length calls)) ∙ append-nil _
 
   -- A call that leaves the open group open, or begins an update.
-  pub call_line : (o q : Option OpenGroup) (began now : ℕ) (calls : List Call) (groups : List Group) (c : Call) (f : Statement) → AreInside (length calls) groups → line_of_call p.slot_names p.bitmap_names c ≡ f → ((m : ℕ) → m ≤ length calls → open_group_before q now m ≡ open_group_before o began m) → open_group_before q now (length calls + 1) ≡ [] → lines_so_far q now (calls ++ c ∷ []) groups ≡ lines_so_far o began calls groups ++ StatementLine f ∷ []
-  call_line o q began now calls groups c f inside line same end =
-      more_line o q began now calls groups groups c f line
+  pub call_line : (o q : Option OpenGroup) (calls_before_group now : ℕ) (calls : List Call) (groups : List Group) (c : Call) (f : Statement) → AreInside (length calls) groups → line_of_call p.slot_names p.bitmap_names c ≡ f → ((m : ℕ) → m ≤ length calls → open_group_before q now m ≡ open_group_before o calls_before_group m) → open_group_before q now (length calls + 1) ≡ [] → lines_so_far q now (calls ++ c ∷ []) groups ≡ lines_so_far o calls_before_group calls groups ++ StatementLine f ∷ []
+  call_line o q calls_before_group now calls groups c f inside line same end =
+      more_line o q calls_before_group now calls groups groups c f line
       (λ m low. ap₂ (λ (x y : List Line). x ++ y) (before_kept calls (c ∷ []) groups m inside) (same m (omega arith)))
       (ap₂ (λ (x y : List Line). x ++ y) (before_none (calls ++ c ∷ []) groups (length calls) (length calls) inside (omega arith)) (same (length calls) (omega arith)))
       (λ m x low. at_kept calls (c ∷ []) groups m x inside)
@@ -310,20 +310,20 @@ module _ (p : Plan) where
       (none_before g.first (length calls + 1))
 
   -- Further calls that are a group of their own and stand for a word have its line.
-  pub word_line : (began now : ℕ) (calls : List Call) (groups : List Group) (x : Call) (xs : List Call) (g : Group) (w : Pair × GzzWord) → AreInside (length calls) groups → g.first ≡ length calls → suc g.last ≡ length calls + length (x ∷ xs) → word_for p.pairs (calls ++ x ∷ xs) g ≡ Some w → lines_so_far None now (calls ++ x ∷ xs) (groups ++ g ∷ []) ≡ lines_so_far None began calls groups ++ line_of_word p.slot_names w ∷ []
-  word_line began now calls groups x xs g w inside first last word =
+  pub word_line : (calls_before_group now : ℕ) (calls : List Call) (groups : List Group) (x : Call) (xs : List Call) (g : Group) (w : Pair × GzzWord) → AreInside (length calls) groups → g.first ≡ length calls → suc g.last ≡ length calls + length (x ∷ xs) → word_for p.pairs (calls ++ x ∷ xs) g ≡ Some w → lines_so_far None now (calls ++ x ∷ xs) (groups ++ g ∷ []) ≡ lines_so_far None calls_before_group calls groups ++ line_of_word p.slot_names w ∷ []
+  word_line calls_before_group now calls groups x xs g w inside first last word =
       let all : List Call = calls ++ x ∷ xs in
       let gs : List Group = groups ++ g ∷ [] in
       let n : ℕ = length calls in
       let a : ℕ → List Line = λ m. lines_before p all gs m ++ open_group_before None now m in
-      let b : ℕ → List Line = λ m. lines_before p calls groups m ++ open_group_before None began m in
+      let b : ℕ → List Line = λ m. lines_before p calls groups m ++ open_group_before None calls_before_group m in
       let old : List Line = woven b (lines_at p calls groups) (lines_after p calls groups) 0 calls in
       let opens : lines_opening p all g ≡ line_of_word p.slot_names w ∷ [] = ap (λ (v : Option (Pair × GzzWord)). or_opening p.slot_names v (opening_lines p.slot_names g.hold (is_update all g))) word in
       let closes : lines_closing p all g ≡ [] = ap (λ (v : Option (Pair × GzzWord)). or_closing v (closing_lines p.slot_names g.hold (is_update all g))) word in
       let behind : (m : ℕ) → lines_after p all gs m ≡ lines_after p all groups m = λ m. behind_pushed all groups g m ∙ ap (λ (t : List Line). lines_after p all groups m ++ t) (ap (λ (t : List Line). cond (g.last == m) t []) closes ∙ cond_none (g.last == m) []) ∙ append-nil _ in
       let some : (m : ℕ) → is_of_word p all gs m ≡ (is_of_word p all groups m || (((nat_le g.first m && nat_le m g.last) && true) || false)) = λ m. of_word_pushed all groups g m ∙ ap (λ (v : Option (Pair × GzzWord)). is_of_word p all groups m || (((nat_le g.first m && nat_le m g.last) && is_some v) || false)) word in
       let before_old : (m : ℕ) → m < n → a m ≡ b m = λ m low.
-      ap₂ (λ (u v : List Line). u ++ v) (before_pushed all groups g m ∙ ap₂ (λ (u v : List Line). u ++ v) (before_kept calls (x ∷ xs) groups m inside) (if_apart g.first m (lines_opening p all g) (λ e. omega arith)) ∙ append-nil _) (none_before now m ∙ sym (none_before began m)) in
+      ap₂ (λ (u v : List Line). u ++ v) (before_pushed all groups g m ∙ ap₂ (λ (u v : List Line). u ++ v) (before_kept calls (x ∷ xs) groups m inside) (if_apart g.first m (lines_opening p all g) (λ e. omega arith)) ∙ append-nil _) (none_before now m ∙ sym (none_before calls_before_group m)) in
       let of_old : (m : ℕ) → m < n → is_of_word p all gs m ≡ is_of_word p calls groups m = λ m low.
       some m ∙ (ap (λ t. is_of_word p all groups m || (((t && nat_le m g.last) && true) || false)) (too_early g.first m (omega arith)) ∙ (no_more (is_of_word p all groups m) ∙ of_word_kept calls (x ∷ xs) groups m inside)) in
       let at_old : (m : ℕ) (y : Call) → m < n → lines_at p all gs m y ≡ lines_at p calls groups m y = λ m y low. ap (λ t. cond t [] (StatementLine (line_of_call p.slot_names p.bitmap_names y) ∷ [])) (of_old m low) in
@@ -340,7 +340,7 @@ module _ (p : Plan) where
       let end_first : lines_after p all gs n ≡ [] = behind_new n (omega arith) in
       let new : woven a (lines_at p all gs) (lines_after p all gs) n (x ∷ xs) ≡ line_of_word p.slot_names w ∷ [] = λ i. before_first i ++ at_first i ++ end_first i ++ rest i in
       ap₂ (λ (u v : List Line). u ++ v) (woven_parts a (lines_at p all gs) (lines_after p all gs) 0 calls (x ∷ xs) n (omega arith) ∙ ap₂ (λ (u v : List Line). u ++ v) same new) (none_before now (length all)) ∙ append-nil _
-      ∙ ap (λ (t : List Line). t ++ line_of_word p.slot_names w ∷ []) (sym (ap (λ (t : List Line). old ++ t) (none_before began n) ∙ append-nil old))
+      ∙ ap (λ (t : List Line). t ++ line_of_word p.slot_names w ∷ []) (sym (ap (λ (t : List Line). old ++ t) (none_before calls_before_group n) ∙ append-nil old))
     where
       too_early : (first m : ℕ) → m < first → nat_le first m ≡ false
       too_early first m low = go (nat_le first m) refl

@@ -41,8 +41,8 @@ record AreGrown (t u : Told) (done : List (List Call)) (calls : List Call) (n : 
   tasks : u.tasks ≡ t.tasks
   section : u.section ≡ t.section
   groups : u.groups ≡ t.groups
-  began : u.began ≡ t.began
-  so_far : u.so_far ≡ t.so_far + n
+  calls_before_group : u.calls_before_group ≡ t.calls_before_group
+  calls_in_task : u.calls_in_task ≡ t.calls_in_task + n
   calls_are : u.calls ≡ done ++ calls ∷ []
 
 -- what a line that stands for several statements tells of tasks
@@ -87,7 +87,7 @@ module _ (names : List (List ℕ)) where
 
   grown : (fs above : List Statement) (done : List (List Call)) (calls : List Call) → ArePlainCalls fs → IsPlacedIn names (told (added fs above)).names → (told above).calls ≡ done ++ calls ∷ [] → AreGrown (told above) (told (added fs above)) done (calls ++ calls_by_name (told above).bitmap_names fs) (length fs)
   grown [] above done calls p placed h =
-      record { tasks = refl; section = refl; groups = refl; began = refl; so_far = omega arith; calls_are = h ∙ ap (λ (cs : List Call). done ++ cs ∷ []) (sym (append-nil calls)) }
+      record { tasks = refl; section = refl; groups = refl; calls_before_group = refl; calls_in_task = omega arith; calls_are = h ∙ ap (λ (cs : List Call). done ++ cs ∷ []) (sym (append-nil calls)) }
   grown (CallLine layers act ∷ fs) above done calls p placed h =
       let next : List Statement = CallLine layers act ∷ above in
       let c : Call = call_below (told above) layers act in
@@ -97,13 +97,13 @@ module _ (names : List (List ℕ)) where
       let same : c ≡ spelled_call (told above).bitmap_names act (map (place_among names) layers) = ap (λ (is : List ℕ). spelled_call (told above).bitmap_names act is) slots in
       let e = plain_groups above layers act p.0 p.1 in
       let k = grown fs next done (calls ++ c ∷ []) p.2 placed (ap (onto_last c) h ∙ onto_pushed c done calls) in
-      let so_far : (told (added fs next)).so_far ≡ ((told above).so_far + 1) + length fs = k.so_far in
+      let calls_in_task : (told (added fs next)).calls_in_task ≡ ((told above).calls_in_task + 1) + length fs = k.calls_in_task in
       record {
         tasks = k.tasks;
         section = k.section;
         groups = k.groups ∙ e.0;
-        began = k.began ∙ e.2;
-        so_far = omega (arith, so_far);
+        calls_before_group = k.calls_before_group ∙ e.2;
+        calls_in_task = omega (arith, calls_in_task);
         calls_are = k.calls_are ∙ ap (λ (cs : List Call). done ++ cs ∷ []) (append_assoc calls (c ∷ []) more ∙ ap (λ (d : Call). calls ++ d ∷ more) same);
       }
   grown (f ∷ fs) above done calls p placed h = absurd p
@@ -126,7 +126,7 @@ module _ (names : List (List ℕ)) where
   done_group above g act n = record { first = n; last = (n + length (done_calls above g act)) - 1; hold = AllLayers }
 
   -- They are all that the line tells of tasks.
-  pub gzz_told : (above : List Statement) (g : List ℕ) (act : GzzAct) (done : List (List Call)) (done_groups : List (List Group)) (calls : List Call) (groups : List Group) → IsPlacedIn names (told (added (gzz_lines (told above).pairs g act) above)).names → length calls ≡ (told above).so_far → (told above).calls ≡ done ++ calls ∷ [] → (told above).groups ≡ done_groups ++ groups ∷ [] → IsGroupTold (told above) (told (added (gzz_lines (told above).pairs g act) above)) done done_groups (calls ++ done_calls above g act) (groups ++ done_group above g act (length calls) ∷ [])
+  pub gzz_told : (above : List Statement) (g : List ℕ) (act : GzzAct) (done : List (List Call)) (done_groups : List (List Group)) (calls : List Call) (groups : List Group) → IsPlacedIn names (told (added (gzz_lines (told above).pairs g act) above)).names → length calls ≡ (told above).calls_in_task → (told above).calls ≡ done ++ calls ∷ [] → (told above).groups ≡ done_groups ++ groups ∷ [] → IsGroupTold (told above) (told (added (gzz_lines (told above).pairs g act) above)) done done_groups (calls ++ done_calls above g act) (groups ++ done_group above g act (length calls) ∷ [])
   gzz_told above g act done done_groups calls groups placed long all_are groups_are =
       let i : List ℕ = inner_by (told above).pairs g act in
       let fs : List Statement = gzz_calls g i act in
@@ -141,11 +141,11 @@ module _ (names : List (List ℕ)) where
       let so_many : length fs ≡ length cs = counted fs (gzz_plain g i act) in
       let many : length cs ≡ length (done_calls above g act) = ap length same in
       let new : List Statement = ReleaseLine ∷ added fs held in
-      let mine : Group = record { first = (told (added fs held)).began; last = (told (added fs held)).so_far - 1; hold = AllLayers } in
-      let began : (told (added fs held)).began ≡ length calls = k.began ∙ sym long in
-      let so_far : (told (added fs held)).so_far ≡ (told above).so_far + length fs = k.so_far in
-      let end : (told (added fs held)).so_far - 1 ≡ (length calls + length (done_calls above g act)) - 1 = omega (arith, so_far, long, so_many, many) in
-      let is : mine ≡ done_group above g act (length calls) = ap₂ (λ (a b : ℕ). (let group : Group = record { first = a; last = b; hold = AllLayers } in group)) began end in
+      let mine : Group = record { first = (told (added fs held)).calls_before_group; last = (told (added fs held)).calls_in_task - 1; hold = AllLayers } in
+      let calls_before_group : (told (added fs held)).calls_before_group ≡ length calls = k.calls_before_group ∙ sym long in
+      let calls_in_task : (told (added fs held)).calls_in_task ≡ (told above).calls_in_task + length fs = k.calls_in_task in
+      let end : (told (added fs held)).calls_in_task - 1 ≡ (length calls + length (done_calls above g act)) - 1 = omega (arith, calls_in_task, long, so_many, many) in
+      let is : mine ≡ done_group above g act (length calls) = ap₂ (λ (a b : ℕ). (let group : Group = record { first = a; last = b; hold = AllLayers } in group)) calls_before_group end in
       let grouped : (told new).groups ≡ done_groups ++ (groups ++ mine ∷ []) ∷ [] = ap (onto_last mine) (k.groups ∙ groups_are) ∙ onto_pushed mine done_groups groups in
       let at : IsGroupTold (told above) (told new) done done_groups (calls ++ done_calls above g act) (groups ++ done_group above g act (length calls) ∷ []) =
       record {
@@ -175,12 +175,12 @@ module _ (names : List (List ℕ)) where
 -- The lines of a task's calls and groups with those of the line are one more, which is that line.
 module _ (p : Plan) where
   -- calls that stand for a word, in a group of their own
-  one_word : (began now : ℕ) (calls cs : List Call) (groups : List Group) (g : Group) (w : Pair × GzzWord) → AreInside (length calls) groups → g.first ≡ length calls → suc g.last ≡ length calls + length cs → 0 < length cs → word_for p.pairs (calls ++ cs) g ≡ Some w → lines_so_far p None now (calls ++ cs) (groups ++ g ∷ []) ≡ lines_so_far p None began calls groups ++ line_of_word p.slot_names w ∷ []
-  one_word began now calls [] groups g w inside first last some word = absurd (omega arith)
-  one_word began now calls (x ∷ xs) groups g w inside first last some word = word_line p began now calls groups x xs g w inside first last word
+  one_word : (calls_before_group now : ℕ) (calls cs : List Call) (groups : List Group) (g : Group) (w : Pair × GzzWord) → AreInside (length calls) groups → g.first ≡ length calls → suc g.last ≡ length calls + length cs → 0 < length cs → word_for p.pairs (calls ++ cs) g ≡ Some w → lines_so_far p None now (calls ++ cs) (groups ++ g ∷ []) ≡ lines_so_far p None calls_before_group calls groups ++ line_of_word p.slot_names w ∷ []
+  one_word calls_before_group now calls [] groups g w inside first last some word = absurd (omega arith)
+  one_word calls_before_group now calls (x ∷ xs) groups g w inside first last some word = word_line p calls_before_group now calls groups x xs g w inside first last word
 
-  pub gzz_lined : (began now : ℕ) (above : List Statement) (g : List ℕ) (act : GzzAct) (calls : List Call) (groups : List Group) → AreInside (length calls) groups → IsGzzMade act → IsPlacedIn p.slot_names (told (added (gzz_lines (told above).pairs g act) above)).names → IsFoundPair p.slot_names (record { outer = g; inner = inner_by (told above).pairs g act }) → IsIn (pair_among p.slot_names (record { outer = g; inner = inner_by (told above).pairs g act })) p.pairs → lines_so_far p None now (calls ++ done_calls p.slot_names above g act) (groups ++ done_group p.slot_names above g act (length calls) ∷ []) ≡ lines_so_far p None began calls groups ++ GzzLine g act ∷ []
-  gzz_lined began now above g act calls groups inside made placed found among =
+  pub gzz_lined : (calls_before_group now : ℕ) (above : List Statement) (g : List ℕ) (act : GzzAct) (calls : List Call) (groups : List Group) → AreInside (length calls) groups → IsGzzMade act → IsPlacedIn p.slot_names (told (added (gzz_lines (told above).pairs g act) above)).names → IsFoundPair p.slot_names (record { outer = g; inner = inner_by (told above).pairs g act }) → IsIn (pair_among p.slot_names (record { outer = g; inner = inner_by (told above).pairs g act })) p.pairs → lines_so_far p None now (calls ++ done_calls p.slot_names above g act) (groups ++ done_group p.slot_names above g act (length calls) ∷ []) ≡ lines_so_far p None calls_before_group calls groups ++ GzzLine g act ∷ []
+  gzz_lined calls_before_group now above g act calls groups inside made placed found among =
       let names : List (List ℕ) = p.slot_names in
       let i : List ℕ = inner_by (told above).pairs g act in
       let o : ℕ = place_among names g in
@@ -195,4 +195,4 @@ module _ (p : Plan) where
       let whole : group_calls (calls ++ cs) group ≡ cs = ap (take ((((n + length cs) - 1) + 1) - n)) own ∙ take_all ((((n + length cs) - 1) + 1) - n) cs (omega (arith, some)) in
       let word : word_for p.pairs (calls ++ cs) group ≡ Some w = ap (word_among p.pairs) whole ∙ among_has p.pairs (pair_at o k) (word_done act m) cs (calls_spell (told above).bitmap_names o k m act made) among in
       let line : line_of_word names w ≡ GzzLine g act = word_line_back names o k m g act found.outer (named_by names above g act placed found.inner) in
-      one_word began now calls cs groups group w inside refl (omega (arith, some)) some word ∙ ap (λ (l : Line). lines_so_far p None began calls groups ++ l ∷ []) line
+      one_word calls_before_group now calls cs groups group w inside refl (omega (arith, some)) some word ∙ ap (λ (l : Line). lines_so_far p None calls_before_group calls groups ++ l ∷ []) line

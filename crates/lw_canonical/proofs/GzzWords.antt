@@ -18,8 +18,8 @@ use Rattle.std.proofs.lemmas.Bool.{not_from_false}
 
 -- the word that a line does, where the layer in front of which it puts its window has this slot
 abbrev pub word_done : GzzAct → ℕ → GzzWord
-word_done (OpenGzz inner kind place r classes title) m = OpenWord kind place r.first r.second r.third r.fourth classes title
-word_done (BoxGzz r) m = BoxWord r.first r.second r.third r.fourth
+word_done (OpenGzz inner kind place r classes title) m = OpenWord kind place r.x r.y r.w r.h classes title
+word_done (BoxGzz r) m = BoxWord r.x r.y r.w r.h
 word_done FrontGzz m = FrontWord
 word_done BehindGzz m = BehindWord
 word_done (InFrontGzz other) m = PlaceWord m
@@ -28,8 +28,8 @@ word_done CloseGzz m = CloseWord
 -- its calls on these slots
 abbrev pub calls_done : List (List ℕ) → ℕ → ℕ → ℕ → GzzAct → List Call
 calls_done bitmaps o i m (OpenGzz inner kind place r classes title) =
-    spelled_call bitmaps (OpenAct (new_without_bitmap Smart place r false None) true false classes title) (o ∷ [])
-    ∷ spelled_call bitmaps (OpenAct (new_without_bitmap kind place (inner_box r) false None) false false classes []) (i ∷ [])
+    spelled_call bitmaps (OpenAct r (new_without_bitmap Smart place false None) true false classes title) (o ∷ [])
+    ∷ spelled_call bitmaps (OpenAct (inner_box r) (new_without_bitmap kind place false None) false false classes []) (i ∷ [])
     ∷ spelled_call bitmaps InFrontAct (i ∷ o ∷ [])
     ∷ []
 calls_done bitmaps o i m (BoxGzz r) = spelled_call bitmaps (BoxAct r) (o ∷ []) ∷ spelled_call bitmaps (BoxAct (inner_box r)) (i ∷ []) ∷ []

@@ -17,13 +17,13 @@ pub record AreBare (above : List Statement) : Type 0 where
   pub of_tasks : filter is_of_tasks above ≡ []
   pub tasks : (told above).tasks ≡ []
   pub names : (told above).names ≡ []
-  pub seen : (told above).seen ≡ []
+  pub names_without_slot : (told above).names_without_slot ≡ []
   pub pairs : (told above).pairs ≡ []
   pub supers : (told above).supers ≡ 0
-  pub hooks : (told above).used ≡ nothing_told.used
+  pub hooks : (told above).hooks_named ≡ nothing_told.hooks_named
   pub group : (told above).group ≡ None
-  pub so_far : (told above).so_far ≡ 0
-  pub began : (told above).began ≡ 0
+  pub calls_in_task : (told above).calls_in_task ≡ 0
+  pub calls_before_group : (told above).calls_before_group ≡ 0
   pub calls : (told above).calls ≡ []
   pub groups : (told above).groups ≡ []
 
@@ -42,32 +42,32 @@ both_begun c e n = true≢false (sym e ∙ n)
 -- the version, the screen line, a glyph, a bitmap, a row or a pattern leaves lines bare
 layers_bare : (above : List Statement) → AreBare above → AreBare (LayersLine ∷ above)
 layers_bare above b =
-    record { of_tasks = b.of_tasks; tasks = b.tasks; names = b.names; seen = b.seen; pairs = b.pairs; supers = b.supers; hooks = b.hooks; group = b.group; so_far = b.so_far; began = b.began; calls = b.calls; groups = b.groups }
+    record { of_tasks = b.of_tasks; tasks = b.tasks; names = b.names; names_without_slot = b.names_without_slot; pairs = b.pairs; supers = b.supers; hooks = b.hooks; group = b.group; calls_in_task = b.calls_in_task; calls_before_group = b.calls_before_group; calls = b.calls; groups = b.groups }
 
 screen_bare : (above : List Statement) (w h d : ℤ) → AreBare above → AreBare (ScreenLine w h d ∷ above)
 screen_bare above w h d b =
-    record { of_tasks = b.of_tasks; tasks = b.tasks; names = b.names; seen = b.seen; pairs = b.pairs; supers = b.supers; hooks = b.hooks; group = b.group; so_far = b.so_far; began = b.began; calls = b.calls; groups = b.groups }
+    record { of_tasks = b.of_tasks; tasks = b.tasks; names = b.names; names_without_slot = b.names_without_slot; pairs = b.pairs; supers = b.supers; hooks = b.hooks; group = b.group; calls_in_task = b.calls_in_task; calls_before_group = b.calls_before_group; calls = b.calls; groups = b.groups }
 
 glyph_bare : (above : List Statement) (code : ℕ) (rows : List ℕ) → AreBare above → AreBare (GlyphLine code rows ∷ above)
 glyph_bare above code rows b =
-    record { of_tasks = b.of_tasks; tasks = b.tasks; names = b.names; seen = b.seen; pairs = b.pairs; supers = b.supers; hooks = b.hooks; group = b.group; so_far = b.so_far; began = b.began; calls = b.calls; groups = b.groups }
+    record { of_tasks = b.of_tasks; tasks = b.tasks; names = b.names; names_without_slot = b.names_without_slot; pairs = b.pairs; supers = b.supers; hooks = b.hooks; group = b.group; calls_in_task = b.calls_in_task; calls_before_group = b.calls_before_group; calls = b.calls; groups = b.groups }
 
 bitmap_bare : (above : List Statement) (name : List ℕ) (w h d : ℤ) → AreBare above → AreBare (BitmapLine name w h d ∷ above)
 bitmap_bare above name w h d b =
-    record { of_tasks = b.of_tasks; tasks = b.tasks; names = b.names; seen = b.seen; pairs = b.pairs; supers = b.supers; hooks = b.hooks; group = b.group; so_far = b.so_far; began = b.began; calls = b.calls; groups = b.groups }
+    record { of_tasks = b.of_tasks; tasks = b.tasks; names = b.names; names_without_slot = b.names_without_slot; pairs = b.pairs; supers = b.supers; hooks = b.hooks; group = b.group; calls_in_task = b.calls_in_task; calls_before_group = b.calls_before_group; calls = b.calls; groups = b.groups }
 
 row_bare : (above : List Statement) (bytes : List ℕ) → AreBare above → AreBare (RowLine bytes ∷ above)
 row_bare above bytes b =
-    record { of_tasks = b.of_tasks; tasks = b.tasks; names = b.names; seen = b.seen; pairs = b.pairs; supers = b.supers; hooks = b.hooks; group = b.group; so_far = b.so_far; began = b.began; calls = b.calls; groups = b.groups }
+    record { of_tasks = b.of_tasks; tasks = b.tasks; names = b.names; names_without_slot = b.names_without_slot; pairs = b.pairs; supers = b.supers; hooks = b.hooks; group = b.group; calls_in_task = b.calls_in_task; calls_before_group = b.calls_before_group; calls = b.calls; groups = b.groups }
 
 pattern_bare : (above : List Statement) (name words : List ℕ) → AreBare above → AreBare (PatternLine name words ∷ above)
 pattern_bare above name words b =
-    record { of_tasks = b.of_tasks; tasks = b.tasks; names = b.names; seen = b.seen; pairs = b.pairs; supers = b.supers; hooks = b.hooks; group = b.group; so_far = b.so_far; began = b.began; calls = b.calls; groups = b.groups }
+    record { of_tasks = b.of_tasks; tasks = b.tasks; names = b.names; names_without_slot = b.names_without_slot; pairs = b.pairs; supers = b.supers; hooks = b.hooks; group = b.group; calls_in_task = b.calls_in_task; calls_before_group = b.calls_before_group; calls = b.calls; groups = b.groups }
 
 -- Good lines are bare as long as no task has begun.
 pub bare : (s : Setting) (above : List Statement) → AreGoodLines s above → has_begun (told above).section ≡ false → AreBare above
 bare s [] g n =
-    record { of_tasks = refl; tasks = refl; names = refl; seen = refl; pairs = refl; supers = refl; hooks = refl; group = refl; so_far = refl; began = refl; calls = refl; groups = refl }
+    record { of_tasks = refl; tasks = refl; names = refl; names_without_slot = refl; pairs = refl; supers = refl; hooks = refl; group = refl; calls_in_task = refl; calls_before_group = refl; calls = refl; groups = refl }
 bare s (LayersLine ∷ above) g n = layers_bare above (bare s above g.1 n)
 bare s (ScreenLine w h d ∷ above) g n =
     screen_bare above w h d (bare s above g.1 (ap has_begun (in_screen (told above).section (here s above (ScreenLine w h d) g).1)))
@@ -111,13 +111,13 @@ pub record AreAlike (above new : List Statement) : Type 0 where
   pub bitmaps : (told new).bitmaps [] ≡ (told above).bitmaps []
   pub tasks : (told new).tasks ≡ (told above).tasks
   pub names : (told new).names ≡ (told above).names
-  pub seen : (told new).seen ≡ []
+  pub names_without_slot : (told new).names_without_slot ≡ []
   pub pairs : (told new).pairs ≡ (told above).pairs
   pub supers : (told new).supers ≡ (told above).supers
-  pub hooks : (told new).used ≡ (told above).used
+  pub hooks : (told new).hooks_named ≡ (told above).hooks_named
   pub group : (told new).group ≡ (told above).group
-  pub so_far : (told new).so_far ≡ (told above).so_far
-  pub began : (told new).began ≡ (told above).began
+  pub calls_in_task : (told new).calls_in_task ≡ (told above).calls_in_task
+  pub calls_before_group : (told new).calls_before_group ≡ (told above).calls_before_group
   pub calls : (told new).calls ≡ (told above).calls
   pub groups : (told new).groups ≡ (told above).groups
 
@@ -137,13 +137,13 @@ base_alike above base c n b =
       bitmaps = b.bitmaps;
       tasks = b.tasks ∙ sym n.tasks;
       names = b.names ∙ sym n.names;
-      seen = b.seen;
+      names_without_slot = b.names_without_slot;
       pairs = b.pairs ∙ sym n.pairs;
       supers = b.supers ∙ sym n.supers;
       hooks = b.hooks ∙ sym n.hooks;
       group = b.group ∙ sym n.group;
-      so_far = b.so_far ∙ sym n.so_far;
-      began = b.began ∙ sym n.began;
+      calls_in_task = b.calls_in_task ∙ sym n.calls_in_task;
+      calls_before_group = b.calls_before_group ∙ sym n.calls_before_group;
       calls = b.calls ∙ sym n.calls;
       groups = b.groups ∙ sym n.groups;
     }
@@ -155,14 +155,14 @@ same_call above new layers act a =
     ∙ ap (λ (bs : List (List ℕ)). spelled_call bs act (map (place_among (and_names (told above).names layers)) layers)) a.bitmap_names
 
 -- the group of a task below such lines
-same_group : (above new : List Statement) (hold : Hold) (count : ℕ → ℕ) → AreAlike above new → group_from (told new) hold (count (told new).so_far) ≡ group_from (told above) hold (count (told above).so_far)
+same_group : (above new : List Statement) (hold : Hold) (count : ℕ → ℕ) → AreAlike above new → group_from (told new) hold (count (told new).calls_in_task) ≡ group_from (told above) hold (count (told above).calls_in_task)
 same_group above new hold count a =
-    ap (λ (n : ℕ). group_from (told new) hold (count n)) a.so_far ∙ ap (λ (n : ℕ). record { first = n; last = count (told above).so_far - 1; hold = hold }) a.began
+    ap (λ (n : ℕ). group_from (told new) hold (count n)) a.calls_in_task ∙ ap (λ (n : ℕ). record { first = n; last = count (told above).calls_in_task - 1; hold = hold }) a.calls_before_group
 
 -- the same of one that ends on a layer
-same_slot_group : (above new : List Statement) (name : List ℕ) (count : ℕ → ℕ) → AreAlike above new → group_from (told new) (Slot (place_among (told new).names name)) (count (told new).so_far) ≡ group_from (told above) (Slot (place_among (told above).names name)) (count (told above).so_far)
+same_slot_group : (above new : List Statement) (name : List ℕ) (count : ℕ → ℕ) → AreAlike above new → group_from (told new) (Slot (place_among (told new).names name)) (count (told new).calls_in_task) ≡ group_from (told above) (Slot (place_among (told above).names name)) (count (told above).calls_in_task)
 same_slot_group above new name count a =
-    ap (λ (ns : List (List ℕ)). group_from (told new) (Slot (place_among ns name)) (count (told new).so_far)) a.names ∙ same_group above new (Slot (place_among (told above).names name)) count a
+    ap (λ (ns : List (List ℕ)). group_from (told new) (Slot (place_among ns name)) (count (told new).calls_in_task)) a.names ∙ same_group above new (Slot (place_among (told above).names name)) count a
 
 -- a list's last one with the same put at its end
 onto_same : {A : Type 0} (a b : A) (xs ys : List (List A)) → a ≡ b → xs ≡ ys → onto_last a xs ≡ onto_last b ys
@@ -238,9 +238,9 @@ module _ (above new : List Statement) (a : AreAlike above new) where
   more_names f = a.names
 
   -- no name stands alone, and the windows of two layers
-  more_seen : (f : Statement) → is_of_tasks f ≡ true → (told (f ∷ new)).seen ≡ []
+  more_seen : (f : Statement) → is_of_tasks f ≡ true → (told (f ∷ new)).names_without_slot ≡ []
   more_seen (NameSeen name) t = absurd (false≢true t)
-  more_seen f t = a.seen
+  more_seen f t = a.names_without_slot
 
   more_pairs : (f : Statement) → (told (f ∷ new)).pairs ≡ (told (f ∷ above)).pairs
   more_pairs (PairMade outer inner) = ap (λ pairs. pairs ++ record { outer = outer; inner = inner } ∷ []) a.pairs
@@ -251,7 +251,7 @@ module _ (above new : List Statement) (a : AreAlike above new) where
   more_supers (CallLine layers act) = ap (λ n. cond (makes_super (CallLine layers act)) 1 0 + n) a.supers
   more_supers f = a.supers
 
-  more_hooks : (f : Statement) → (told (f ∷ new)).used ≡ (told (f ∷ above)).used
+  more_hooks : (f : Statement) → (told (f ∷ new)).hooks_named ≡ (told (f ∷ above)).hooks_named
   more_hooks (CallLine layers act) = ap (and_hook (hook_on (CallLine layers act))) a.hooks
   more_hooks f = a.hooks
 
@@ -265,18 +265,18 @@ module _ (above new : List Statement) (a : AreAlike above new) where
   more_group f = a.group
 
   -- the nearest task's calls so far
-  more_so_far : (f : Statement) → (told (f ∷ new)).so_far ≡ (told (f ∷ above)).so_far
+  more_so_far : (f : Statement) → (told (f ∷ new)).calls_in_task ≡ (told (f ∷ above)).calls_in_task
   more_so_far (TaskLine name) = refl
-  more_so_far (CallLine layers act) = ap (λ n. n + 1) a.so_far
-  more_so_far f = a.so_far
+  more_so_far (CallLine layers act) = ap (λ n. n + 1) a.calls_in_task
+  more_so_far f = a.calls_in_task
 
   -- where the open group began
-  more_began : (f : Statement) → (told (f ∷ new)).began ≡ (told (f ∷ above)).began
-  more_began (LockLine name) = a.so_far
-  more_began HoldLine = a.so_far
-  more_began (CallLine layers (BareAct RefreshVerb)) = a.so_far
-  more_began (CallLine layers act) = a.began
-  more_began f = a.began
+  more_began : (f : Statement) → (told (f ∷ new)).calls_before_group ≡ (told (f ∷ above)).calls_before_group
+  more_began (LockLine name) = a.calls_in_task
+  more_began HoldLine = a.calls_in_task
+  more_began (CallLine layers (BareAct RefreshVerb)) = a.calls_in_task
+  more_began (CallLine layers act) = a.calls_before_group
+  more_began f = a.calls_before_group
 
   -- each task's calls
   more_calls : (f : Statement) → (told (f ∷ new)).calls ≡ (told (f ∷ above)).calls
@@ -313,13 +313,13 @@ module _ (above new : List Statement) (a : AreAlike above new) where
         bitmaps = more_bitmaps f t;
         tasks = more_tasks f;
         names = more_names f;
-        seen = more_seen f t;
+        names_without_slot = more_seen f t;
         pairs = more_pairs f;
         supers = more_supers f;
         hooks = more_hooks f;
         group = more_group f;
-        so_far = more_so_far f;
-        began = more_began f;
+        calls_in_task = more_so_far f;
+        calls_before_group = more_began f;
         calls = more_calls f;
         groups = more_groups f;
       }
@@ -356,13 +356,13 @@ base_below f above base t b =
       bitmaps = b.bitmaps;
       tasks = b.tasks;
       names = b.names;
-      seen = b.seen;
+      names_without_slot = b.names_without_slot;
       pairs = b.pairs;
       supers = b.supers;
       hooks = b.hooks;
       group = b.group;
-      so_far = b.so_far;
-      began = b.began;
+      calls_in_task = b.calls_in_task;
+      calls_before_group = b.calls_before_group;
       calls = b.calls;
       groups = b.groups;
     }
@@ -404,13 +404,13 @@ alike_behind above new f t c a =
       bitmaps = a.bitmaps;
       tasks = a.tasks;
       names = a.names;
-      seen = a.seen;
+      names_without_slot = a.names_without_slot;
       pairs = a.pairs;
       supers = a.supers;
       hooks = a.hooks;
       group = a.group;
-      so_far = a.so_far;
-      began = a.began;
+      calls_in_task = a.calls_in_task;
+      calls_before_group = a.calls_before_group;
       calls = a.calls;
       groups = a.groups;
     }

@@ -5,13 +5,13 @@ use Rattle.std.specs.Result.{IfOk}
 use Rattle.lw_grammar.specs.declared.reason.Reason.{Reason}
 use Rattle.lw_grammar.specs.declared.reason.Reason.TheVariants.{LineTooLong, BadByte, UnknownWord, Misplaced, Form as FormReason, Range}
 use Rattle.lw_grammar.specs.declared.verb.Verb.{Verb}
-use Rattle.lw_grammar.specs.declared.verb.Verb.TheVariants.{Part, Bare, Number, Pair, Text, Rect, Region, ClearRegion, Create, Open, InFront, Box, Which, Fill, ScrollRaster, Put, Blit, EndRefresh, Area as AreaVerb, AreaPattern as AreaPatternVerb, Gzz}
+use Rattle.lw_grammar.specs.declared.verb.Verb.TheVariants.{Part, Bare, Number, Pair, Text, Rect, Region, ClearRegion, Create, Open, InFront, Box as BoxOf, Which, Fill, ScrollRaster, Put, Blit, EndRefresh, Area as AreaVerb, AreaPattern as AreaPatternVerb, Gzz}
 use Rattle.lw_grammar.specs.Demands.{◌>>=◌, demand}
 use Rattle.lw_grammar.specs.Lines.{lines}
 use Rattle.lw_grammar.specs.Tokens.{tokens, Token, NameToken, token_of}
 use Rattle.lw_grammar.specs.declared.verb.GzzVerb.{GzzVerb}
 use Rattle.lw_grammar.specs.Verbs.{gzz_word, verb_word, verb_of}
-use Rattle.lw_grammar.specs.Statements.{BoxAct, FillAct, Statement, GzzAct, Line, StatementLine, AreaLine, GzzLine, row_line, numbers_line, area_points, area_line, area_pattern_line, gzz_line, statement_by, line_by, is_line_in_range, bounds}
+use Rattle.lw_grammar.specs.Statements.{BoxAct, FillAct, Statement, GzzAct, Line, StatementLine, AreaLine, GzzLine, row_line, numbers_line, area_points, area_line, area_pattern_line, gzz_line, statement_by, line_by, is_line_in_range, box, rectangle}
 use Rattle.lw_grammar.specs.Told.{told}
 use Rattle.lw_grammar.specs.Script.{Setting, line_limit, is_printable, are_numbers_due, is_known_in, belongs_in, words_read, verb_read, stated, line_made, line_tested, line_read}
 use Rattle.lw_calls.specs.Written.{line_of}
@@ -20,7 +20,7 @@ use Rattle.lw_grammar.proofs.GzzLines.{gzz_passed}
 use Rattle.lw_grammar.proofs.ScriptStatements.{map_has, map_all, found_has}
 use Rattle.lw_canonical.proofs.SpelledVerbs.{IsWordOf, verb_spelled}
 use Rattle.lw_canonical.proofs.SpelledWords.{AreWords, AreWordsOf, words_joined, token_word, tokens_back, tokens_good}
-use Rattle.lw_canonical.proofs.SpelledRanges.{rect_small, place_and_size_small, also}
+use Rattle.lw_canonical.proofs.SpelledRanges.{rect_small, also, box_small}
 use Rattle.lw_canonical.proofs.SpelledStatements.{IsSpelt, HasWords, row_spelt, numbers_spelt, part_spelt, layer_spelt, number_spelt, pair_spelt, text_spelt, four_spelt, rect_spelt, region_spelt, clear_spelt, which_spelt, infront_spelt, scrollraster_spelt, endrefresh_spelt, put_spelt, blit_spelt}
 use Rattle.lw_canonical.proofs.SpelledLayers.{create_spelt, open_spelt}
 use Rattle.lw_canonical.proofs.SpelledGzz.{HasSmallBox, small_box, IsGzzSpelt, is_gzz, gzz_only, gzz_spelt}
@@ -40,9 +40,9 @@ statement_spelt ClearRegion ts = clear_spelt ts
 statement_spelt Create ts = create_spelt ts
 statement_spelt Open ts = open_spelt ts
 statement_spelt InFront ts = infront_spelt ts
-statement_spelt Box ts = four_spelt (codes "box") (λ n. BoxAct n) (λ l r. refl) place_and_size_small ts
+statement_spelt BoxOf ts = four_spelt (codes "box") (λ x y w h. BoxAct (box x y w h)) (λ l x y w h. refl) box_small ts
 statement_spelt Which ts = which_spelt ts
-statement_spelt Fill ts = four_spelt (codes "fill") (λ n. FillAct (bounds n)) (λ l r. refl) rect_small ts
+statement_spelt Fill ts = four_spelt (codes "fill") (λ x0 y0 x1 y1. FillAct (rectangle x0 y0 x1 y1)) (λ l x0 y0 x1 y1. refl) rect_small ts
 statement_spelt ScrollRaster ts = scrollraster_spelt ts
 statement_spelt Put ts = put_spelt ts
 statement_spelt Blit ts = blit_spelt ts

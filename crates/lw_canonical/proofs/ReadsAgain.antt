@@ -177,7 +177,7 @@ pub spelled_again : (s t : Setting) (above below : List Statement) (f : Statemen
 spelled_again s t above below f w same tested = read_again s t above below (spelled f) (StatementLine f) same tested w
 
 -- Counts of which all but one are none are few.
-pub few_by_bitmaps : (limits : Limits) (t : Told) → t.tasks ≡ [] → length t.bitmap_names ≤ 16 → t.pattern_names ≡ [] → t.names ≡ [] → t.supers ≡ 0 → t.so_far ≡ 0 → are_few limits t ≡ true
+pub few_by_bitmaps : (limits : Limits) (t : Told) → t.tasks ≡ [] → length t.bitmap_names ≤ 16 → t.pattern_names ≡ [] → t.names ≡ [] → t.supers ≡ 0 → t.calls_in_task ≡ 0 → are_few limits t ≡ true
 few_by_bitmaps limits t no_tasks few no_patterns no_names no_supers no_calls =
     let tasks : length t.tasks ≡ 0 = ap length no_tasks in
     let patterns : length t.pattern_names ≡ 0 = ap length no_patterns in

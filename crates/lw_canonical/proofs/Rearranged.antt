@@ -132,12 +132,12 @@ pub record IsBaseOf (above base : List Statement) : Type 0 where
   pub bitmaps : (told base).bitmaps [] ≡ (told above).bitmaps []
   pub tasks : (told base).tasks ≡ []
   pub names : (told base).names ≡ []
-  pub seen : (told base).seen ≡ []
+  pub names_without_slot : (told base).names_without_slot ≡ []
   pub pairs : (told base).pairs ≡ []
   pub supers : (told base).supers ≡ 0
-  pub hooks : (told base).used ≡ nothing_told.used
+  pub hooks : (told base).hooks_named ≡ nothing_told.hooks_named
   pub group : (told base).group ≡ None
-  pub so_far : (told base).so_far ≡ 0
-  pub began : (told base).began ≡ 0
+  pub calls_in_task : (told base).calls_in_task ≡ 0
+  pub calls_before_group : (told base).calls_before_group ≡ 0
   pub calls : (told base).calls ≡ []
   pub groups : (told base).groups ≡ []

@@ -7,24 +7,24 @@ use Rattle.lw_grammar.specs.declared.verb.GzzVerb.{GzzVerb}
 use Rattle.lw_grammar.specs.declared.verb.GzzVerb.TheVariants.{Open as OpenVerb, Box as BoxVerb, Front as FrontVerb, Behind as BehindVerb, InFront as InFrontVerb, Close as CloseVerb}
 use Rattle.lw_grammar.specs.Tokens.{Token, NameToken, NumberToken, TextToken}
 use Rattle.lw_grammar.specs.Verbs.{gzz_word}
-use Rattle.lw_grammar.specs.Statements.{GzzAct, OpenGzz, BoxGzz, FrontGzz, BehindGzz, CloseGzz, Line, StatementLine, AreaLine, GzzLine, four, ask_option, place_of, inner_kind_of, titled_gzz, opened_gzz, gopen_line, gbox_line, gzz_alone, ginfront_line, gzz_line, is_gzz_in_range, Four}
+use Rattle.lw_grammar.specs.Statements.{GzzAct, OpenGzz, BoxGzz, FrontGzz, BehindGzz, CloseGzz, Line, StatementLine, AreaLine, GzzLine, ask_option, place_of, inner_kind_of, titled_gzz, opened_gzz, gopen_line, gbox_line, gzz_alone, ginfront_line, gzz_line, is_gzz_in_range, Box, box}
 use Rattle.lw_canonical.specs.Spelling.{text_word, kind_word, place_word, ask_words, gzz_words}
 use Rattle.lw_grammar.proofs.ScriptNames.{equal_names}
 use Rattle.lw_grammar.proofs.GzzLines.{boxes_fit}
 use Rattle.lw_canonical.proofs.SpelledNumbers.{found_if}
 use Rattle.lw_canonical.proofs.SpelledWords.{token_word, AreTokens}
-use Rattle.lw_canonical.proofs.SpelledRanges.{AreSmall, place_and_size_small, also}
+use Rattle.lw_canonical.proofs.SpelledRanges.{AreSmall, also, box_small}
 use Rattle.lw_canonical.proofs.SpelledLayers.{ask_taken, place_spelt, then_by}
 
 -- the numbers of a box
 abbrev pub HasSmallBox : GzzAct → Type 0
-HasSmallBox (OpenGzz inner kind place r classes title) = AreSmall r
-HasSmallBox (BoxGzz r) = AreSmall r
+HasSmallBox (OpenGzz inner kind place r classes title) = AreSmall r.x r.y r.w r.h
+HasSmallBox (BoxGzz r) = AreSmall r.x r.y r.w r.h
 HasSmallBox act = Unit {0}
 
 pub small_box : (width height : ℕ) (act : GzzAct) → width ≤ 32767 → height ≤ 32767 → is_gzz_in_range width height act ≡ true → HasSmallBox act
-small_box width height (OpenGzz inner kind place r classes title) wide high h = place_and_size_small r (boxes_fit width height r wide high h).0
-small_box width height (BoxGzz r) wide high h = place_and_size_small r (boxes_fit width height r wide high h).0
+small_box width height (OpenGzz inner kind place r classes title) wide high h = box_small r.x r.y r.w r.h (boxes_fit width height r wide high h).0
+small_box width height (BoxGzz r) wide high h = box_small r.x r.y r.w r.h (boxes_fit width height r wide high h).0
 small_box width height act wide high h = tt
 
 -- The line's words are these, where its box is small and the words are good ones.
@@ -40,7 +40,7 @@ inner_kind_spelt w =
     found_if P (bytes_eq w (codes "simple")) Simple _ (equal_names w (codes "simple")) (found_if P (bytes_eq w (codes "smart")) Smart None (equal_names w (codes "smart")) tt)
 
 -- what is found where the title is left
-titled_has : (P : Line → Type 0) (g i : List ℕ) (kind : Kind) (place : Place) (r : Four) (classes : ℕ) (ts : List Token) → ((title : List ℕ) → map token_word ts ≡ text_word title ∷ [] → P (GzzLine g (OpenGzz i kind place r classes title))) → IfSome (titled_gzz g i kind place r classes ts) P
+titled_has : (P : Line → Type 0) (g i : List ℕ) (kind : Kind) (place : Place) (r : Box) (classes : ℕ) (ts : List Token) → ((title : List ℕ) → map token_word ts ≡ text_word title ∷ [] → P (GzzLine g (OpenGzz i kind place r classes title))) → IfSome (titled_gzz g i kind place r classes ts) P
 titled_has P g i kind place r classes (TextToken title ∷ []) h = h title refl
 titled_has P g i kind place r classes _ h = tt
 
@@ -52,9 +52,9 @@ gopen_spelt (NameToken g ∷ NameToken i ∷ NameToken k ∷ NameToken p ∷ Num
     P : Line → Type 0
     P = IsGzzSpelt (codes "gopen") (NameToken g ∷ NameToken i ∷ NameToken k ∷ NameToken p ∷ NumberToken a x ∷ NumberToken b y ∷ NumberToken c z ∷ NumberToken d w ∷ ts)
 
-    at_title : (place : Place) (kind : Kind) → p ≡ place_word place → k ≡ kind_word kind → IfSome (opened_gzz g i place (four x y z w) ts kind) P
+    at_title : (place : Place) (kind : Kind) → p ≡ place_word place → k ≡ kind_word kind → IfSome (opened_gzz g i place (box x y z w) ts kind) P
     at_title place kind e f =
-        titled_has P g i kind place (four x y z w) (ask_option ts).0 (ask_option ts).1 (λ title left t s.
+        titled_has P g i kind place (box x y z w) (ask_option ts).0 (ask_option ts).1 (λ title left t s.
         let rest = t.1.1.1.1 in
         let taken = ask_taken ts rest.1.1.1.1 in
         let last : ask_words (ask_option ts).0 ++ text_word title ∷ [] ≡ map token_word ts = ap (λ us. ask_words (ask_option ts).0 ++ us) (sym left) ∙ sym taken.0 in
@@ -94,7 +94,7 @@ is_gzz (GzzLine g act) = true
 
 gopen_only : (ts : List Token) → IfSome (gopen_line ts) (λ l. is_gzz l ≡ true)
 gopen_only (NameToken g ∷ NameToken i ∷ NameToken k ∷ NameToken p ∷ NumberToken a x ∷ NumberToken b y ∷ NumberToken c z ∷ NumberToken d w ∷ ts) =
-    then_by (λ place. p ≡ place_word place) P _ (place_of p) (place_spelt p) (λ place e. then_by (λ kind. k ≡ kind_word kind) P _ (inner_kind_of k) (inner_kind_spelt k) (λ kind f. titled_has P g i kind place (four x y z w) (ask_option ts).0 (ask_option ts).1 (λ title left. refl)))
+    then_by (λ place. p ≡ place_word place) P _ (place_of p) (place_spelt p) (λ place e. then_by (λ kind. k ≡ kind_word kind) P _ (inner_kind_of k) (inner_kind_spelt k) (λ kind f. titled_has P g i kind place (box x y z w) (ask_option ts).0 (ask_option ts).1 (λ title left. refl)))
   where
     P : Line → Type 0
     P = λ l. is_gzz l ≡ true

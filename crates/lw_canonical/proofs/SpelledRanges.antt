@@ -5,7 +5,7 @@ use Rattle.lw_calls.specs.Limits.{is_coordinate, axis_fits, rect_fits, coordinat
 use Rattle.lw_grammar.specs.Tokens.{cap}
 use Rattle.lw_grammar.specs.declared.verb.NumberVerb.{NumberVerb}
 use Rattle.lw_grammar.specs.declared.verb.NumberVerb.TheVariants.{Mode as ModeVerb, Clip as ClipVerb, Hook as HookVerb}
-use Rattle.lw_grammar.specs.Statements.{greatest_hook, is_hook_number, place_and_size_fit, greatest_number, are_sizes_in_range, Four, bounds}
+use Rattle.lw_grammar.specs.Statements.{greatest_hook, is_hook_number, greatest_number, are_sizes_in_range, box, rectangle, box_fits}
 use Rattle.lw_canonical.proofs.SpelledNumbers.{small_in}
 use Rattle.std.proofs.lemmas.Bool.{and_parts}
 
@@ -56,8 +56,8 @@ sizes_small limit w h d low r =
     (side w s.0, (side h s.1, small_in (pos 1) d (pos 8) k.1 (omega arith) (omega arith)))
 
 -- each number of four
-abbrev pub AreSmall : Four → Type 0
-AreSmall r = IsSmall r.first × (IsSmall r.second × (IsSmall r.third × IsSmall r.fourth))
+abbrev pub AreSmall : ℤ → ℤ → ℤ → ℤ → Type 0
+AreSmall x y z w = IsSmall x × (IsSmall y × (IsSmall z × IsSmall w))
 
 -- the bounds along one axis
 axis_small : (low high : ℤ) → axis_fits low high ≡ true → IsSmall low × IsSmall high
@@ -66,20 +66,20 @@ axis_small low high h =
     let k = and_parts (is_coordinate low && is_coordinate high) _ h in
     places_small low high k.0
 
--- a rectangle, and a place with a size
-pub rect_small : (r : Four) → rect_fits (bounds r) ≡ true → AreSmall r
-rect_small r h =
-    let k = and_parts (axis_fits r.first r.third) (axis_fits r.second r.fourth) h in
-    let x = axis_small r.first r.third k.0 in
-    let y = axis_small r.second r.fourth k.1 in
+-- a rectangle, and a box
+pub rect_small : (x0 y0 x1 y1 : ℤ) → rect_fits (rectangle x0 y0 x1 y1) ≡ true → AreSmall x0 y0 x1 y1
+rect_small x0 y0 x1 y1 h =
+    let k = and_parts (axis_fits x0 x1) (axis_fits y0 y1) h in
+    let x = axis_small x0 x1 k.0 in
+    let y = axis_small y0 y1 k.1 in
     (x.0, (y.0, (x.1, y.1)))
 
-pub place_and_size_small : (r : Four) → place_and_size_fit r ≡ true → AreSmall r
-place_and_size_small r h =
-    let k = and_parts (coordinates_fit r.first r.second) (is_extent r.third && is_extent r.fourth) h in
-    let place = places_small r.first r.second k.0 in
-    let size = and_parts (is_extent r.third) (is_extent r.fourth) k.1 in
-    (place.0, (place.1, (size_small r.third size.0, size_small r.fourth size.1)))
+pub box_small : (x y w h : ℤ) → box_fits (box x y w h) ≡ true → AreSmall x y w h
+box_small x y w h e =
+    let k = and_parts (coordinates_fit x y) (is_extent w && is_extent h) e in
+    let place = places_small x y k.0 in
+    let size = and_parts (is_extent w) (is_extent h) k.1 in
+    (place.0, (place.1, (size_small w size.0, size_small h size.1)))
 
 -- a list with an equal head and an equal tail is equal
 pub also : {A : Type 0} {x y : A} {xs ys : List A} → x ≡ y → xs ≡ ys → x ∷ xs ≡ y ∷ ys

@@ -18,7 +18,7 @@ use Rattle.lw_grammar.specs.declared.verb.PairVerb.{PairVerb}
 use Rattle.lw_grammar.specs.declared.verb.TextVerb.{TextVerb}
 use Rattle.lw_grammar.specs.Verbs.{part_word, bare_word, number_word, pair_word, text_verb_word, rect_word, region_word}
 use Rattle.lw_area.specs.Patterns.{is_pattern_count}
-use Rattle.lw_grammar.specs.Statements.{Act, Statement, LayersLine, RowLine, PatternLine, TaskLine, EndLine, OrderLine, NumbersLine, ReportLine, LockLine, UnlockLine, HoldLine, ReleaseLine, four, layers_line, screen_line, glyph_of_bytes, glyph_line, bitmap_line, row_line, pattern_word, pattern_words, pattern_line, all_numbers, numbers_limit, numbers_line, name_line, alone_line, part_line, layer_line, number_line, pair_line, text_line, rect_line, region_line, clear_line, which_line, infront_line, four_line, scrollraster_line, minterm_of, put_line, blit_line, endrefresh_line, is_area_in_range, is_act_in_range, version_at_screen, bitmap_size_limit, is_line_in_range, Four}
+use Rattle.lw_grammar.specs.Statements.{Act, Statement, LayersLine, RowLine, PatternLine, TaskLine, EndLine, OrderLine, NumbersLine, ReportLine, LockLine, UnlockLine, HoldLine, ReleaseLine, layers_line, screen_line, glyph_of_bytes, glyph_line, bitmap_line, row_line, pattern_word, pattern_words, pattern_line, all_numbers, numbers_limit, numbers_line, name_line, alone_line, part_line, layer_line, number_line, pair_line, text_line, rect_line, region_line, clear_line, which_line, infront_line, four_line, scrollraster_line, minterm_of, put_line, blit_line, endrefresh_line, is_blit_in_range, is_act_in_range, version_at_screen, bitmap_size_limit, is_line_in_range}
 use Rattle.lw_calls.specs.Written.{hex_byte}
 use Rattle.lw_canonical.specs.Spelling.{hex_word, four_words, call_words, pattern_digits, words_of}
 use Rattle.lw_grammar.proofs.ScriptStatements.{either_has, map_has, twice_has, AreSoMany, token_spelled}
@@ -178,17 +178,17 @@ text_spelt verb (NameToken l ∷ TextToken text ∷ []) = λ t v r. refl
 text_spelt verb _ = tt
 
 -- a verb with a layer and four numbers
-pub four_spelt : (word : List ℕ) (act : Four → Act) → ((l : List ℕ) (r : Four) → call_words (l ∷ []) (act r) ≡ word ∷ l ∷ four_words r) → ((r : Four) → is_act_in_range (act r) ≡ true → AreSmall r) → (ts : List Token) → IfSome (four_line act ts) (IsSpelt word ts)
+pub four_spelt : (word : List ℕ) (act : ℤ → ℤ → ℤ → ℤ → Act) → ((l : List ℕ) (x y w h : ℤ) → call_words (l ∷ []) (act x y w h) ≡ word ∷ l ∷ four_words x y w h) → ((x y w h : ℤ) → is_act_in_range (act x y w h) ≡ true → AreSmall x y w h) → (ts : List Token) → IfSome (four_line act ts) (IsSpelt word ts)
 four_spelt word act k small (NameToken l ∷ NumberToken a x ∷ NumberToken b y ∷ NumberToken c w ∷ NumberToken d h ∷ []) = λ t v r.
-    let s = small (four x y w h) r in
-    k l (four x y w h) ∙ also refl (also refl (also (t.1.0 s.0) (also (t.1.1.0 s.1.0) (also (t.1.1.1.0 s.1.1.0) (also (t.1.1.1.1.0 s.1.1.1) refl)))))
+    let s = small x y w h r in
+    k l x y w h ∙ also refl (also refl (also (t.1.0 s.0) (also (t.1.1.0 s.1.0) (also (t.1.1.1.0 s.1.1.0) (also (t.1.1.1.1.0 s.1.1.1) refl)))))
 four_spelt word act k small _ = tt
 
 -- orrect R X0 Y0 X1 Y1, and its kin
 pub rect_spelt : (op : RectOp) (ts : List Token) → IfSome (rect_line op ts) (IsSpelt (rect_word op) ts)
 rect_spelt op (NumberToken a r ∷ NumberToken b x0 ∷ NumberToken c y0 ∷ NumberToken d x1 ∷ NumberToken e y1 ∷ []) = λ t v k.
     let m = and_parts (within (pos 0) r (pos 7)) _ k in
-    let s = rect_small (four x0 y0 x1 y1) m.1 in
+    let s = rect_small x0 y0 x1 y1 m.1 in
     also refl (also (t.0 (register_small r m.0)) (also (t.1.0 s.0) (also (t.1.1.0 s.1.0) (also (t.1.1.1.0 s.1.1.0) (also (t.1.1.1.1.0 s.1.1.1) refl)))))
 rect_spelt op _ = tt
 
@@ -221,7 +221,7 @@ pub scrollraster_spelt : (ts : List Token) → IfSome (scrollraster_line ts) (Is
 scrollraster_spelt (NameToken l ∷ NumberToken a dx ∷ NumberToken b dy ∷ NumberToken c x0 ∷ NumberToken d y0 ∷ NumberToken e x1 ∷ NumberToken f y1 ∷ []) = λ t v k.
     let m = and_parts (coordinates_fit dx dy) _ k in
     let p = places_small dx dy m.0 in
-    let s = rect_small (four x0 y0 x1 y1) m.1 in
+    let s = rect_small x0 y0 x1 y1 m.1 in
     also refl (also refl (also (t.1.0 p.0) (also (t.1.1.0 p.1) (also (t.1.1.1.0 s.0) (also (t.1.1.1.1.0 s.1.0) (also (t.1.1.1.1.1.0 s.1.1.0) (also (t.1.1.1.1.1.1.0 s.1.1.1) refl)))))))
 scrollraster_spelt _ = tt
 
@@ -242,7 +242,7 @@ minterm_spelt word (Some (m ∷ n ∷ ms)) h = tt
 abbrev AreBlitSmall : Area → Type 0
 AreBlitSmall b = (IsSmall b.sx × IsSmall b.sy) × ((IsSmall b.x × IsSmall b.y) × (IsSmall b.w × IsSmall b.h))
 
-blit_small : (b : Area) → is_area_in_range b ≡ true → AreBlitSmall b
+blit_small : (b : Area) → is_blit_in_range b ≡ true → AreBlitSmall b
 blit_small b r =
     let k = and_parts (coordinates_fit b.sx b.sy && coordinates_fit b.x b.y) _ r in
     let places = and_parts (coordinates_fit b.sx b.sy) (coordinates_fit b.x b.y) k.0 in

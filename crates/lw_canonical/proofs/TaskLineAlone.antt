@@ -132,7 +132,7 @@ few_alike limits above new a few =
       patterns = omega (arith, patterns);
       names = omega (arith, names, c.names);
       supers = omega (arith, a.supers, c.supers);
-      calls = omega (arith, a.so_far, c.calls);
+      calls = omega (arith, a.calls_in_task, c.calls);
     })
 
 -- a task's name is new below such lines if it was
@@ -149,10 +149,10 @@ not_padded width (RowLine bytes) t = absurd (false≢true t)
 not_padded width f t = refl
 
 -- a line fits the open group below such lines if it did
-same_fit : (above new : List Statement) (f : Statement) → AreAlike above new → fits_group (told new).group (nat_lt (told new).began (told new).so_far) f ≡ fits_group (told above).group (nat_lt (told above).began (told above).so_far) f
+same_fit : (above new : List Statement) (f : Statement) → AreAlike above new → fits_group (told new).group (nat_lt (told new).calls_before_group (told new).calls_in_task) f ≡ fits_group (told above).group (nat_lt (told above).calls_before_group (told above).calls_in_task) f
 same_fit above new f a =
-    ap (λ (g : Option OpenGroup). fits_group g (nat_lt (told new).began (told new).so_far) f) a.group
-    ∙ (ap (λ n. fits_group (told above).group (nat_lt n (told new).so_far) f) a.began ∙ ap (λ n. fits_group (told above).group (nat_lt (told above).began n) f) a.so_far)
+    ap (λ (g : Option OpenGroup). fits_group g (nat_lt (told new).calls_before_group (told new).calls_in_task) f) a.group
+    ∙ (ap (λ n. fits_group (told above).group (nat_lt n (told new).calls_in_task) f) a.calls_before_group ∙ ap (λ n. fits_group (told above).group (nat_lt (told above).calls_before_group n) f) a.calls_in_task)
 
 -- Below lines that tell the same, a statement of tasks meets the same tests.
 tests_alone : (s : Setting) (above new : List Statement) (f : Statement) → is_of_tasks f ≡ true → AreAlike above new → IsStatementTested s above f → IsStatementTested (alone s) new f
@@ -218,7 +218,7 @@ same_gzz above new g act a = ap (λ (pairs : List NamedPair). gzz_lines pairs g 
 not_again : (above new : List Statement) (name : List ℕ) → AreAlike above new → stands_above (told above) name ≡ false → stands_above (told new) name ≡ false
 not_again above new name a h =
     let k = or_parts (list_any (bytes_eq name) (told above).names) _ h in
-    or_from _ _ (ap (list_any (bytes_eq name)) a.names ∙ k.0) (ap (list_any (bytes_eq name)) a.seen)
+    or_from _ _ (ap (list_any (bytes_eq name)) a.names ∙ k.0) (ap (list_any (bytes_eq name)) a.names_without_slot)
 
 not_names_again : (above new : List Statement) (g : List ℕ) (act : GzzAct) → AreAlike above new → names_again (told above) g act ≡ false → names_again (told new) g act ≡ false
 not_names_again above new g (OpenGzz inner kind place r classes title) a h =

@@ -92,9 +92,9 @@ last_same all xs ys x y e f = sym (last_pushed xs x) ∙ ap last_of (sym e ∙ f
 
 -- what is known of the nearest task: its groups end before its next call
 pub record IsTask (v : View) (calls : List Call) (groups : List Group) : Type 0 where
-  pub long : length calls ≡ v.so_far
+  pub long : length calls ≡ v.calls_in_task
   pub inside : AreInside (length calls) groups
-  pub state : OpenState v.group v.so_far v.began v.names calls groups
+  pub state : OpenState v.group v.calls_in_task v.calls_before_group v.names calls groups
 
 now_task : (z : Sizes) (v : View) (calls : List Call) (groups : List Group) → IsNow z v calls groups → IsTask v calls groups
 now_task z v calls groups h = record { long = h.long; inside = groups_inside calls groups h.fits.grouped; state = h.state }
@@ -116,17 +116,17 @@ none_between s above g e = (tasks_fit (plan_of s.hooks (told above)).sizes s abo
 -- The lines of tasks of a plan whose windows of two layers are these.
 module _ (p : Plan) (pairs : List NamedPair) (mapped : map (pair_among p.slot_names) pairs ≡ p.pairs) (found : AreFoundPairs p.slot_names pairs) where
   -- nothing was opened before a call after the next one
-  open_group_behind : (o : Option OpenGroup) (so_far began n : ℕ) (names : List (List ℕ)) (calls : List Call) (groups : List Group) → OpenState o so_far began names calls groups → so_far < n → open_group_before o began n ≡ []
-  open_group_behind None so_far began n names calls groups h low = none_before p began n
-  open_group_behind (Some (Locked l)) so_far began n names calls groups h low =
-      let order : began ≤ so_far = h.0.order in ap (λ t. cond t (StatementLine (LockLine l) ∷ []) []) (ne_eqb began n (λ e. omega arith))
-  open_group_behind (Some (Updating l)) so_far began n names calls groups h low = none_before p began n
-  open_group_behind (Some Held) so_far began n names calls groups h low =
-      let order : began ≤ so_far = h.0.order in ap (λ t. cond t (StatementLine HoldLine ∷ []) []) (ne_eqb began n (λ e. omega arith))
+  open_group_behind : (o : Option OpenGroup) (calls_in_task calls_before_group n : ℕ) (names : List (List ℕ)) (calls : List Call) (groups : List Group) → OpenState o calls_in_task calls_before_group names calls groups → calls_in_task < n → open_group_before o calls_before_group n ≡ []
+  open_group_behind None calls_in_task calls_before_group n names calls groups h low = none_before p calls_before_group n
+  open_group_behind (Some (Locked l)) calls_in_task calls_before_group n names calls groups h low =
+      let order : calls_before_group ≤ calls_in_task = h.0.order in ap (λ t. cond t (StatementLine (LockLine l) ∷ []) []) (ne_eqb calls_before_group n (λ e. omega arith))
+  open_group_behind (Some (Updating l)) calls_in_task calls_before_group n names calls groups h low = none_before p calls_before_group n
+  open_group_behind (Some Held) calls_in_task calls_before_group n names calls groups h low =
+      let order : calls_before_group ≤ calls_in_task = h.0.order in ap (λ t. cond t (StatementLine HoldLine ∷ []) []) (ne_eqb calls_before_group n (λ e. omega arith))
 
   -- what opens an update has no lines
-  update_before : (l : List ℕ) (began m : ℕ) → open_group_before (Some (Updating l)) began m ≡ []
-  update_before l began m = none_before p began m
+  update_before : (l : List ℕ) (calls_before_group m : ℕ) → open_group_before (Some (Updating l)) calls_before_group m ≡ []
+  update_before l calls_before_group m = none_before p calls_before_group m
 
   -- the calls of an open hold are free of all these windows
   abbrev AreHeldFree : Option OpenGroup → List Call → Type 0
@@ -134,13 +134,13 @@ module _ (p : Plan) (pairs : List NamedPair) (mapped : map (pair_among p.slot_na
   AreHeldFree o calls = Unit {0}
 
   -- so they are with one more
-  free_more : (o : Option OpenGroup) (so_far began : ℕ) (names : List (List ℕ)) (calls : List Call) (groups : List Group) (c : Call) → OpenState o so_far began names calls groups → length calls ≡ so_far → is_free_call p.pairs c ≡ true → AreHeldFree o (drop began calls) → AreHeldFree o (drop began (calls ++ c ∷ []))
-  free_more None so_far began names calls groups c h long k f = tt
-  free_more (Some (Locked l)) so_far began names calls groups c h long k f = tt
-  free_more (Some (Updating l)) so_far began names calls groups c h long k f = tt
-  free_more (Some Held) so_far began names calls groups c h long k f =
-      let order : began ≤ so_far = h.0.order in
-      ap (list_all (is_free_call p.pairs)) (drop_pushed calls c began (omega (arith, order, long))) ∙ all_pushed (is_free_call p.pairs) (drop began calls) c f k
+  free_more : (o : Option OpenGroup) (calls_in_task calls_before_group : ℕ) (names : List (List ℕ)) (calls : List Call) (groups : List Group) (c : Call) → OpenState o calls_in_task calls_before_group names calls groups → length calls ≡ calls_in_task → is_free_call p.pairs c ≡ true → AreHeldFree o (drop calls_before_group calls) → AreHeldFree o (drop calls_before_group (calls ++ c ∷ []))
+  free_more None calls_in_task calls_before_group names calls groups c h long k f = tt
+  free_more (Some (Locked l)) calls_in_task calls_before_group names calls groups c h long k f = tt
+  free_more (Some (Updating l)) calls_in_task calls_before_group names calls groups c h long k f = tt
+  free_more (Some Held) calls_in_task calls_before_group names calls groups c h long k f =
+      let order : calls_before_group ≤ calls_in_task = h.0.order in
+      ap (list_all (is_free_call p.pairs)) (drop_pushed calls c calls_before_group (omega (arith, order, long))) ∙ all_pushed (is_free_call p.pairs) (drop calls_before_group calls) c f k
 
   -- no group of them stands for a word
   no_word : (cs : List Call) (n : ℕ) → 0 < length cs → 0 < n → list_all (is_free_call p.pairs) cs ≡ true → word_among p.pairs (take n cs) ≡ None
@@ -187,8 +187,8 @@ module _ (p : Plan) (pairs : List NamedPair) (mapped : map (pair_among p.slot_na
     pub names_are : (told (stated ls)).tasks ≡ done_names ++ name ∷ []
     pub all_are : (told (stated ls)).calls ≡ done ++ calls ∷ []
     pub groups_are : (told (stated ls)).groups ≡ done_groups ++ groups ∷ []
-    pub written : told_lines ls ≡ all_task_lines done_names done done_groups ++ StatementLine (TaskLine name) ∷ lines_so_far p (told (stated ls)).group (told (stated ls)).began calls groups
-    pub free : AreHeldFree (told (stated ls)).group (drop (told (stated ls)).began calls)
+    pub written : told_lines ls ≡ all_task_lines done_names done done_groups ++ StatementLine (TaskLine name) ∷ lines_so_far p (told (stated ls)).group (told (stated ls)).calls_before_group calls groups
+    pub free : AreHeldFree (told (stated ls)).group (drop (told (stated ls)).calls_before_group calls)
 
   abbrev pub ToldOrClosed : Bool → List Line → Type 0
   ToldOrClosed true ls = AreTold ls
@@ -241,9 +241,9 @@ module _ (p : Plan) (pairs : List NamedPair) (mapped : map (pair_among p.slot_na
   task_told : (s : Setting) (ls : List Line) (name : List ℕ) → AreGoodLines s (stated ls) → are_calls_due (told (stated ls)).section ≡ false → AreClosed ls → AreTold (StatementLine (TaskLine name) ∷ ls)
   task_told s ls name g e h =
       let above : List Statement = stated ls in
-      let P : Option OpenGroup → Type 0 = λ o. told_lines (StatementLine (TaskLine name) ∷ ls) ≡ all_task_lines (told above).tasks (told above).calls (told above).groups ++ StatementLine (TaskLine name) ∷ lines_so_far p o (told above).began [] [] in
-      let Q : Option OpenGroup → Type 0 = λ o. AreHeldFree o (drop (told above).began []) in
-      let alone : lines_so_far p None (told above).began [] [] ≡ [] = none_before p (told above).began 0 in
+      let P : Option OpenGroup → Type 0 = λ o. told_lines (StatementLine (TaskLine name) ∷ ls) ≡ all_task_lines (told above).tasks (told above).calls (told above).groups ++ StatementLine (TaskLine name) ∷ lines_so_far p o (told above).calls_before_group [] [] in
+      let Q : Option OpenGroup → Type 0 = λ o. AreHeldFree o (drop (told above).calls_before_group []) in
+      let alone : lines_so_far p None (told above).calls_before_group [] [] ≡ [] = none_before p (told above).calls_before_group 0 in
       let line : told_lines (StatementLine (TaskLine name) ∷ ls) ≡ told_lines ls ++ StatementLine (TaskLine name) ∷ [] = reverse-append (StatementLine (TaskLine name) ∷ []) (filter is_task_line ls) in
       record {
         done_names = (told above).tasks;
@@ -260,10 +260,10 @@ module _ (p : Plan) (pairs : List NamedPair) (mapped : map (pair_among p.slot_na
       }
 
   -- a line inside a task
-  line_told : (ls : List Line) (l : Line) (r : AreTold ls) (calls : List Call) (groups : List Group) → (told (stated (l ∷ ls))).tasks ≡ (told (stated ls)).tasks → (told (stated (l ∷ ls))).calls ≡ r.done ++ calls ∷ [] → (told (stated (l ∷ ls))).groups ≡ r.done_groups ++ groups ∷ [] → is_task_line l ≡ true → lines_so_far p (told (stated (l ∷ ls))).group (told (stated (l ∷ ls))).began calls groups ≡ lines_so_far p (told (stated ls)).group (told (stated ls)).began r.calls r.groups ++ l ∷ [] → AreHeldFree (told (stated (l ∷ ls))).group (drop (told (stated (l ∷ ls))).began calls) → AreTold (l ∷ ls)
+  line_told : (ls : List Line) (l : Line) (r : AreTold ls) (calls : List Call) (groups : List Group) → (told (stated (l ∷ ls))).tasks ≡ (told (stated ls)).tasks → (told (stated (l ∷ ls))).calls ≡ r.done ++ calls ∷ [] → (told (stated (l ∷ ls))).groups ≡ r.done_groups ++ groups ∷ [] → is_task_line l ≡ true → lines_so_far p (told (stated (l ∷ ls))).group (told (stated (l ∷ ls))).calls_before_group calls groups ≡ lines_so_far p (told (stated ls)).group (told (stated ls)).calls_before_group r.calls r.groups ++ l ∷ [] → AreHeldFree (told (stated (l ∷ ls))).group (drop (told (stated (l ∷ ls))).calls_before_group calls) → AreTold (l ∷ ls)
   line_told ls l r calls groups tasks all grouped e more free =
       let before : List Line = all_task_lines r.done_names r.done r.done_groups in
-      let old : List Line = lines_so_far p (told (stated ls)).group (told (stated ls)).began r.calls r.groups in
+      let old : List Line = lines_so_far p (told (stated ls)).group (told (stated ls)).calls_before_group r.calls r.groups in
       let here : filter is_task_line (l ∷ ls) ≡ l ∷ filter is_task_line ls = ap (λ t. cond t (l ∷ filter is_task_line ls) (filter is_task_line ls)) e in
       let line : told_lines (l ∷ ls) ≡ told_lines ls ++ l ∷ [] = ap reverse here ∙ reverse-append (l ∷ []) (filter is_task_line ls) in
       record {
@@ -304,7 +304,7 @@ module _ (p : Plan) (pairs : List NamedPair) (mapped : map (pair_among p.slot_na
       let none : (told above).group ≡ None = none_open (told above).group (tests s above EndLine g).group in
       let before : List Line = all_task_lines r.done_names r.done r.done_groups in
       let own : List Line = closed_lines p r.calls r.groups in
-      let closed : lines_so_far p (told above).group (told above).began r.calls r.groups ≡ own = ap (λ (o : Option OpenGroup). lines_so_far p o (told above).began r.calls r.groups) none ∙ lines_closed p (told above).began r.calls r.groups in
+      let closed : lines_so_far p (told above).group (told above).calls_before_group r.calls r.groups ≡ own = ap (λ (o : Option OpenGroup). lines_so_far p o (told above).calls_before_group r.calls r.groups) none ∙ lines_closed p (told above).calls_before_group r.calls r.groups in
       let line : told_lines (StatementLine EndLine ∷ ls) ≡ told_lines ls ++ StatementLine EndLine ∷ [] = reverse-append (StatementLine EndLine ∷ []) (filter is_task_line ls) in
       let lists : length (r.done ++ r.calls ∷ []) ≡ length (r.done_names ++ r.name ∷ []) = ap length (sym r.all_are) ∙ calls_listed above ∙ ap length r.names_are in
       let grouped : length (r.done_groups ++ r.groups ∷ []) ≡ length (r.done_names ++ r.name ∷ []) = ap length (sym r.groups_are) ∙ groups_listed above ∙ ap length r.names_are in
@@ -344,14 +344,14 @@ module _ (p : Plan) (pairs : List NamedPair) (mapped : map (pair_among p.slot_na
     known = nearest_task s above good due r.done r.done_groups r.calls r.groups r.all_are r.groups_are
 
     -- the same, where the group that is open is known
-    state_at : (o : Option OpenGroup) → (told above).group ≡ o → OpenState o (told above).so_far (told above).began (told above).names r.calls r.groups
+    state_at : (o : Option OpenGroup) → (told above).group ≡ o → OpenState o (told above).calls_in_task (told above).calls_before_group (told above).names r.calls r.groups
     state_at o e =
-        let P : Option OpenGroup → Type 0 = λ k. OpenState k (told above).so_far (told above).began (told above).names r.calls r.groups in
+        let P : Option OpenGroup → Type 0 = λ k. OpenState k (told above).calls_in_task (told above).calls_before_group (told above).names r.calls r.groups in
         subst P e known.state
 
     -- the task's lines so far, where this group is open
-    lines_at : (o : Option OpenGroup) → (told above).group ≡ o → lines_so_far p o (told above).began r.calls r.groups ≡ lines_so_far p (told above).group (told above).began r.calls r.groups
-    lines_at o e = ap (λ (k : Option OpenGroup). lines_so_far p k (told above).began r.calls r.groups) (sym e)
+    lines_at : (o : Option OpenGroup) → (told above).group ≡ o → lines_so_far p o (told above).calls_before_group r.calls r.groups ≡ lines_so_far p (told above).group (told above).calls_before_group r.calls r.groups
+    lines_at o e = ap (λ (k : Option OpenGroup). lines_so_far p k (told above).calls_before_group r.calls r.groups) (sym e)
 
     -- a call that neither begins nor ends an update
     plain_told : (layers : List (List ℕ)) (act : Act) → is_beginning act ≡ false → is_ending act ≡ false → line_of_call p.slot_names p.bitmap_names (call_below (told above) layers act) ≡ CallLine layers act → is_free_call p.pairs (call_below (told above) layers act) ≡ true → AreTold (StatementLine (CallLine layers act) ∷ ls)
@@ -359,10 +359,10 @@ module _ (p : Plan) (pairs : List NamedPair) (mapped : map (pair_among p.slot_na
         let c : Call = call_below (told above) layers act in
         let new : List Statement = CallLine layers act ∷ above in
         let e = plain_groups above layers act begins ends in
-        let end : open_group_before (told above).group (told above).began (length r.calls + 1) ≡ [] = open_group_behind (told above).group (told above).so_far (told above).began (length r.calls + 1) (told above).names r.calls r.groups known.state (omega (arith, known.long)) in
-        let more = call_line p (told above).group (told above).group (told above).began (told above).began r.calls r.groups c (CallLine layers act) known.inside line (λ m low. refl) end in
-        let still = free_more (told above).group (told above).so_far (told above).began (told above).names r.calls r.groups c known.state known.long free r.free in
-        let P : Option OpenGroup → Type 0 = λ o. AreHeldFree o (drop (told above).began (r.calls ++ c ∷ [])) in
+        let end : open_group_before (told above).group (told above).calls_before_group (length r.calls + 1) ≡ [] = open_group_behind (told above).group (told above).calls_in_task (told above).calls_before_group (length r.calls + 1) (told above).names r.calls r.groups known.state (omega (arith, known.long)) in
+        let more = call_line p (told above).group (told above).group (told above).calls_before_group (told above).calls_before_group r.calls r.groups c (CallLine layers act) known.inside line (λ m low. refl) end in
+        let still = free_more (told above).group (told above).calls_in_task (told above).calls_before_group (told above).names r.calls r.groups c known.state known.long free r.free in
+        let P : Option OpenGroup → Type 0 = λ o. AreHeldFree o (drop (told above).calls_before_group (r.calls ++ c ∷ [])) in
         let Q : ℕ → Type 0 = λ n. AreHeldFree (told new).group (drop n (r.calls ++ c ∷ [])) in
         line_told ls (StatementLine (CallLine layers act)) r (r.calls ++ c ∷ []) r.groups refl (ap (onto_last c) r.all_are ∙ onto_pushed c r.done r.calls) (e.0 ∙ r.groups_are) refl (ap₂ (λ (o : Option OpenGroup) (n : ℕ). lines_so_far p o n (r.calls ++ c ∷ []) r.groups) e.1 e.2 ∙ more) (subst Q (sym e.2) (subst P (sym e.1) still))
 
@@ -371,8 +371,8 @@ module _ (p : Plan) (pairs : List NamedPair) (mapped : map (pair_among p.slot_na
     refresh_told l none line =
         let f : Statement = CallLine (l ∷ []) (BareAct RefreshVerb) in
         let c : Call = call_below (told above) (l ∷ []) (BareAct RefreshVerb) in
-        let so_far : ℕ = (told above).so_far in
-        let more = call_line p None (Some (Updating l)) (told above).began so_far r.calls r.groups c f known.inside line (λ m low. update_before l so_far m ∙ sym (none_before p (told above).began m)) (update_before l so_far (length r.calls + 1)) in
+        let calls_in_task : ℕ = (told above).calls_in_task in
+        let more = call_line p None (Some (Updating l)) (told above).calls_before_group calls_in_task r.calls r.groups c f known.inside line (λ m low. update_before l calls_in_task m ∙ sym (none_before p (told above).calls_before_group m)) (update_before l calls_in_task (length r.calls + 1)) in
         line_told ls (StatementLine f) r (r.calls ++ c ∷ []) r.groups refl (ap (onto_last c) r.all_are ∙ onto_pushed c r.done r.calls) r.groups_are refl (more ∙ ap (λ (t : List Line). t ++ StatementLine f ∷ []) (lines_at None none)) tt
 
     endrefresh_told : (l : List ℕ) (full : Bool) → (told above).group ≡ Some (Updating l) → line_of_call p.slot_names p.bitmap_names (call_below (told above) (l ∷ []) (EndRefreshAct full)) ≡ CallLine (l ∷ []) (EndRefreshAct full) → AreTold (StatementLine (CallLine (l ∷ []) (EndRefreshAct full)) ∷ ls)
@@ -380,43 +380,43 @@ module _ (p : Plan) (pairs : List NamedPair) (mapped : map (pair_among p.slot_na
         let f : Statement = CallLine (l ∷ []) (EndRefreshAct full) in
         let c : Call = call_below (told above) (l ∷ []) (EndRefreshAct full) in
         let slot : ℕ = place_among (told above).names l in
-        let group : Group = group_from (told above) (Slot slot) ((told above).so_far + 1) in
-        let state : OpenState (Some (Updating l)) (told above).so_far (told above).began (told above).names r.calls r.groups = state_at (Some (Updating l)) same in
-        let begins : is_update (r.calls ++ c ∷ []) group ≡ true = ap are_updating (drop_pushed r.calls c (told above).began (omega (arith, state.0.order, known.long))) ∙ update_begins slot (drop (told above).began r.calls) c state.2 in
+        let group : Group = group_from (told above) (Slot slot) ((told above).calls_in_task + 1) in
+        let state : OpenState (Some (Updating l)) (told above).calls_in_task (told above).calls_before_group (told above).names r.calls r.groups = state_at (Some (Updating l)) same in
+        let begins : is_update (r.calls ++ c ∷ []) group ≡ true = ap are_updating (drop_pushed r.calls c (told above).calls_before_group (omega (arith, state.0.order, known.long))) ∙ update_begins slot (drop (told above).calls_before_group r.calls) c state.2 in
         let more = update_line p l slot r.calls r.groups group c f known.inside refl begins line in
         line_told ls (StatementLine f) r (r.calls ++ c ∷ []) (r.groups ++ group ∷ []) refl (ap (onto_last c) r.all_are ∙ onto_pushed c r.done r.calls) (ap (onto_last group) r.groups_are ∙ onto_pushed group r.done_groups r.groups) refl (more ∙ ap (λ (t : List Line). t ++ StatementLine f ∷ []) (lines_at (Some (Updating l)) same)) tt
 
     -- a lock or a hold begins
     lock_told : (name : List ℕ) → (told above).group ≡ None → AreTold (StatementLine (LockLine name) ∷ ls)
     lock_told name none =
-        let begun = group_begun p (Locked name) (told above).began r.calls r.groups in
+        let begun = group_begun p (Locked name) (told above).calls_before_group r.calls r.groups in
         line_told ls (StatementLine (LockLine name)) r r.calls r.groups refl r.all_are r.groups_are refl (ap (λ n. lines_so_far p (Some (Locked name)) n r.calls r.groups) (sym known.long) ∙ begun ∙ ap (λ (t : List Line). t ++ StatementLine (LockLine name) ∷ []) (lines_at None none)) tt
 
     hold_told : (told above).group ≡ None → AreTold (StatementLine HoldLine ∷ ls)
     hold_told none =
-        let begun = group_begun p Held (told above).began r.calls r.groups in
-        let nothing : drop (told above).so_far r.calls ≡ [] = drop_all (told above).so_far r.calls (omega (arith, known.long)) in
+        let begun = group_begun p Held (told above).calls_before_group r.calls r.groups in
+        let nothing : drop (told above).calls_in_task r.calls ≡ [] = drop_all (told above).calls_in_task r.calls (omega (arith, known.long)) in
         line_told ls (StatementLine HoldLine) r r.calls r.groups refl r.all_are r.groups_are refl (ap (λ n. lines_so_far p (Some Held) n r.calls r.groups) (sym known.long) ∙ begun ∙ ap (λ (t : List Line). t ++ StatementLine HoldLine ∷ []) (lines_at None none)) (ap (list_all (is_free_call p.pairs)) nothing)
 
     -- a lock or a hold ends
-    unlock_told : (name : List ℕ) → (told above).group ≡ Some (Locked name) → (told above).began < (told above).so_far → IsFoundIn p.slot_names (told above).names → AreTold (StatementLine (UnlockLine name) ∷ ls)
+    unlock_told : (name : List ℕ) → (told above).group ≡ Some (Locked name) → (told above).calls_before_group < (told above).calls_in_task → IsFoundIn p.slot_names (told above).names → AreTold (StatementLine (UnlockLine name) ∷ ls)
     unlock_told name same some places =
         let slot : ℕ = place_among (told above).names name in
-        let group : Group = group_from (told above) (Slot slot) (told above).so_far in
-        let state : OpenState (Some (Locked name)) (told above).so_far (told above).began (told above).names r.calls r.groups = state_at (Some (Locked name)) same in
+        let group : Group = group_from (told above) (Slot slot) (told above).calls_in_task in
+        let state : OpenState (Some (Locked name)) (told above).calls_in_task (told above).calls_before_group (told above).names r.calls r.groups = state_at (Some (Locked name)) same in
         let back : slice_index_or p.slot_names slot [] ≡ name = places name state.1 in
-        let none : is_update r.calls group ≡ false = locked_begin_none slot (drop (told above).began r.calls) state.2 in
+        let none : is_update r.calls group ≡ false = locked_begin_none slot (drop (told above).calls_before_group r.calls) state.2 in
         let opening : opening_lines p.slot_names (Slot slot) (is_update r.calls group) ≡ StatementLine (LockLine name) ∷ [] = ap (λ t. opening_lines p.slot_names (Slot slot) t) none ∙ ap (λ (n : List ℕ). StatementLine (LockLine n) ∷ []) back in
         let closing : closing_lines p.slot_names (Slot slot) (is_update r.calls group) ≡ StatementLine (UnlockLine name) ∷ [] = ap (λ t. closing_lines p.slot_names (Slot slot) t) none ∙ ap (λ (n : List ℕ). StatementLine (UnlockLine n) ∷ []) back in
         let ended = group_ended p (Some (Locked name)) r.calls r.groups group (StatementLine (UnlockLine name) ∷ []) (omega (arith, some, known.long)) (omega (arith, some, known.long)) refl opening closing in
         line_told ls (StatementLine (UnlockLine name)) r r.calls (r.groups ++ group ∷ []) refl r.all_are (ap (onto_last group) r.groups_are ∙ onto_pushed group r.done_groups r.groups) refl (ended ∙ ap (λ (t : List Line). t ++ StatementLine (UnlockLine name) ∷ []) (lines_at (Some (Locked name)) same)) tt
 
-    release_told : (told above).group ≡ Some Held → (told above).began < (told above).so_far → AreTold (StatementLine ReleaseLine ∷ ls)
+    release_told : (told above).group ≡ Some Held → (told above).calls_before_group < (told above).calls_in_task → AreTold (StatementLine ReleaseLine ∷ ls)
     release_told same some =
-        let group : Group = group_from (told above) AllLayers (told above).so_far in
-        let P : Option OpenGroup → Type 0 = λ o. AreHeldFree o (drop (told above).began r.calls) in
-        let long : length (drop (told above).began r.calls) ≡ length r.calls - (told above).began = length-drop (told above).began r.calls in
-        let none : word_for p.pairs r.calls group ≡ None = no_word (drop (told above).began r.calls) ((((told above).so_far - 1) + 1) - (told above).began) (omega (arith, some, long, known.long)) (omega (arith, some)) (subst P same r.free) in
+        let group : Group = group_from (told above) AllLayers (told above).calls_in_task in
+        let P : Option OpenGroup → Type 0 = λ o. AreHeldFree o (drop (told above).calls_before_group r.calls) in
+        let long : length (drop (told above).calls_before_group r.calls) ≡ length r.calls - (told above).calls_before_group = length-drop (told above).calls_before_group r.calls in
+        let none : word_for p.pairs r.calls group ≡ None = no_word (drop (told above).calls_before_group r.calls) ((((told above).calls_in_task - 1) + 1) - (told above).calls_before_group) (omega (arith, some, long, known.long)) (omega (arith, some)) (subst P same r.free) in
         let ended = group_ended p (Some Held) r.calls r.groups group (StatementLine ReleaseLine ∷ []) (omega (arith, some, known.long)) (omega (arith, some, known.long)) none refl refl in
         line_told ls (StatementLine ReleaseLine) r r.calls (r.groups ++ group ∷ []) refl r.all_are (ap (onto_last group) r.groups_are ∙ onto_pushed group r.done_groups r.groups) refl (ended ∙ ap (λ (t : List Line). t ++ StatementLine ReleaseLine ∷ []) (lines_at (Some Held) same)) tt
 
@@ -457,9 +457,9 @@ module _ (p : Plan) (pairs : List NamedPair) (mapped : map (pair_among p.slot_na
       let new : List Statement = stated (GzzLine g act ∷ ls) in
       let calls : List Call = r.calls ++ done_calls names above g act in
       let groups : List Group = r.groups ++ done_group names above g act (length r.calls) ∷ [] in
-      let more : lines_so_far p None (told new).began calls groups ≡ lines_so_far p None (told above).began r.calls r.groups ++ GzzLine g act ∷ [] = gzz_lined p (told above).began (told new).began above g act r.calls r.groups known.inside read.0.made u.placed (found_pair names pairs q one found) in_plan in
-      let all : lines_so_far p (told new).group (told new).began calls groups ≡ lines_so_far p (told above).group (told above).began r.calls r.groups ++ GzzLine g act ∷ [] = ap (λ (o : Option OpenGroup). lines_so_far p o (told new).began calls groups) k.group ∙ (more ∙ ap (λ (o : Option OpenGroup). lines_so_far p o (told above).began r.calls r.groups ++ GzzLine g act ∷ []) (sym none)) in
-      let Q : Option OpenGroup → Type 0 = λ o. AreHeldFree o (drop (told new).began calls) in
+      let more : lines_so_far p None (told new).calls_before_group calls groups ≡ lines_so_far p None (told above).calls_before_group r.calls r.groups ++ GzzLine g act ∷ [] = gzz_lined p (told above).calls_before_group (told new).calls_before_group above g act r.calls r.groups known.inside read.0.made u.placed (found_pair names pairs q one found) in_plan in
+      let all : lines_so_far p (told new).group (told new).calls_before_group calls groups ≡ lines_so_far p (told above).group (told above).calls_before_group r.calls r.groups ++ GzzLine g act ∷ [] = ap (λ (o : Option OpenGroup). lines_so_far p o (told new).calls_before_group calls groups) k.group ∙ (more ∙ ap (λ (o : Option OpenGroup). lines_so_far p o (told above).calls_before_group r.calls r.groups ++ GzzLine g act ∷ []) (sym none)) in
+      let Q : Option OpenGroup → Type 0 = λ o. AreHeldFree o (drop (told new).calls_before_group calls) in
       let S : Section → Type 0 = λ c. ToldOrClosed (are_calls_due c) (GzzLine g act ∷ ls) in
       subst S (sym (k.section ∙ due)) (line_told ls (GzzLine g act) r calls groups k.tasks k.calls_are k.groups_are refl all (subst Q (sym k.group) tt))
 

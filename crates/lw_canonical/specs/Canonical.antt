@@ -6,6 +6,7 @@ use Rattle.std.specs.Prelude.{ℕ, ◌+◌, ◌==◌, Bool, true, false, ◌&&�
 use Rattle.std.specs.Prelude.{length, ℤ, pos, ◌+ℤ◌, ◌-ℤ◌, Option, Some, None, is_some, option_map, slice_index_or}
 use Rattle.std.specs.List.{list_any, list_all, flat_map, range_with_len}
 use Rattle.lw_planes.specs.Bitmap.{Bitmap, plane_row}
+use Rattle.lw_region.specs.Rectangle.{Rectangle}
 use Rattle.lw_calls.specs.declared.make.Make.{Make}
 use Rattle.lw_calls.specs.declared.pair.Pair.{Pair}
 use Rattle.lw_calls.specs.declared.call.Call.{Call}
@@ -35,7 +36,7 @@ use Rattle.lw_grammar.specs.Statements.{RegClearAct, CreateAct, OpenAct, InFront
 use Rattle.lw_grammar.specs.Statements.{PutAct, BlitAct, EndRefreshAct, Statement, LayersLine, ScreenLine, GlyphLine}
 use Rattle.lw_grammar.specs.Statements.{BitmapLine, RowLine, TaskLine, EndLine, CallLine, LockLine, UnlockLine, HoldLine}
 use Rattle.lw_grammar.specs.Statements.{ReleaseLine, GzzAct, OpenGzz, BoxGzz, FrontGzz, BehindGzz, InFrontGzz, CloseGzz, Line}
-use Rattle.lw_grammar.specs.Statements.{StatementLine, GzzLine, four}
+use Rattle.lw_grammar.specs.Statements.{StatementLine, GzzLine, Box, box, rectangle}
 use Rattle.lw_gzz.specs.declared.word.GzzWord.{GzzWord}
 use Rattle.lw_gzz.specs.declared.word.GzzWord.TheVariants.{Open as OpenWord, SetBox as BoxWord, Front as FrontWord}
 use Rattle.lw_gzz.specs.declared.word.GzzWord.TheVariants.{Behind as BehindWord, InFrontOf as PlaceWord, Close as CloseWord}
@@ -48,24 +49,24 @@ abbrev pub enumerated : {A : Type 0} → ℕ → List A → List (ℕ × A)
 enumerated n [] = []
 enumerated n (a ∷ as') = (n, a) ∷ enumerated (n + 1) as'
 
--- what a line asks for of which a call with this layer was made: a creation by its bounds, an opening by its place and size
-abbrev pub new_layer_of : Make → ℤ → ℤ → NewLayer
-new_layer_of m a b =
+-- what a line asks for of which a call with this layer was made, beside its bounds or its box
+abbrev pub new_layer_of : Make → NewLayer
+new_layer_of m =
     record {
       kind = m.kind;
       place = m.place;
-      numbers = four m.x m.y a b;
       backdrop = m.backdrop;
       hook = option_map pos m.hook;
       bits_w = pos m.bits_w;
       bits_h = pos m.bits_h;
     }
 
-abbrev pub created_layer : Make → NewLayer
-created_layer m = new_layer_of m ((m.x +ℤ m.w) -ℤ pos 1) ((m.y +ℤ m.h) -ℤ pos 1)
+-- the bounds of a creation, and the box of an opening
+abbrev pub created_bounds : Make → Rectangle
+created_bounds m = rectangle m.x m.y ((m.x +ℤ m.w) -ℤ pos 1) ((m.y +ℤ m.h) -ℤ pos 1)
 
-abbrev pub opened_layer : Make → NewLayer
-opened_layer m = new_layer_of m m.w m.h
+abbrev pub opened_box : Make → Box
+opened_box m = box m.x m.y m.w m.h
 
 -- the line of a call on one layer, of this name
 abbrev pub on_layer : List (List ℕ) → ℕ → Act → Statement
@@ -76,16 +77,16 @@ abbrev pub line_of_call : List (List ℕ) → List (List ℕ) → Call → State
 line_of_call names bitmaps (RegRect op r rect) = CallLine [] (RegRectAct op (pos r) rect)
 line_of_call names bitmaps (RegPair op s r) = CallLine [] (RegPairAct op (pos s) (pos r))
 line_of_call names bitmaps (RegClear r) = CallLine [] (RegClearAct (pos r))
-line_of_call names bitmaps (Create s m) = on_layer names s (CreateAct (created_layer m))
+line_of_call names bitmaps (Create s m) = on_layer names s (CreateAct (created_bounds m) (new_layer_of m))
 line_of_call names bitmaps (OpenWindow s m framed nocare classes title) =
-    on_layer names s (OpenAct (opened_layer m) framed nocare classes title)
+    on_layer names s (OpenAct (opened_box m) (new_layer_of m) framed nocare classes title)
 line_of_call names bitmaps (Close s) = on_layer names s (BareAct CloseVerb)
 line_of_call names bitmaps (ToFront s) = on_layer names s (BareAct FrontVerb)
 line_of_call names bitmaps (ToBack s) = on_layer names s (BareAct BehindVerb)
 line_of_call names bitmaps (InFrontOf s t) = CallLine (slice_index_or names s [] ∷ slice_index_or names t [] ∷ []) InFrontAct
 line_of_call names bitmaps (MoveBy s dx dy) = on_layer names s (PairAct MoveVerb dx dy)
 line_of_call names bitmaps (SizeBy s dw dh) = on_layer names s (PairAct SizeVerb dw dh)
-line_of_call names bitmaps (SetBox s x y w h) = on_layer names s (BoxAct (four x y w h))
+line_of_call names bitmaps (SetBox s x y w h) = on_layer names s (BoxAct (box x y w h))
 line_of_call names bitmaps (Activate s) = on_layer names s (BareAct ActivateVerb)
 line_of_call names bitmaps (SetHook s n) = on_layer names s (NumberAct HookVerb (pos n))
 line_of_call names bitmaps (Which x y) = CallLine [] (WhichAct x y)
@@ -139,8 +140,8 @@ word_for pairs calls g = word_held pairs (group_calls calls g) g.hold
 -- The line of what is done with a pair, where the layers have these names by slot.
 abbrev pub act_of_word : List (List ℕ) → Pair → GzzWord → GzzAct
 act_of_word names p (OpenWord kind place x y w h asks title) =
-    OpenGzz (slice_index_or names p.inner []) kind place (four x y w h) asks title
-act_of_word names p (BoxWord x y w h) = BoxGzz (four x y w h)
+    OpenGzz (slice_index_or names p.inner []) kind place (box x y w h) asks title
+act_of_word names p (BoxWord x y w h) = BoxGzz (box x y w h)
 act_of_word names p FrontWord = FrontGzz
 act_of_word names p BehindWord = BehindGzz
 act_of_word names p (PlaceWord other) = InFrontGzz (slice_index_or names other [])

@@ -11,13 +11,13 @@ use Rattle.lw_calls.specs.declared.make.Place.{Place}
 use Rattle.lw_calls.specs.declared.make.Place.TheVariants.{Front, Behind}
 use Rattle.lw_grammar.specs.Tokens.{space, quote}
 use Rattle.lw_grammar.specs.Verbs.{bare_word, number_word, pair_word, text_verb_word, rect_word, region_word}
-use Rattle.lw_grammar.specs.Statements.{Four, NewLayer, Act, BareAct, NumberAct, PairAct, TextAct, RegRectAct, RegPairAct}
+use Rattle.lw_grammar.specs.Statements.{Box, NewLayer, Act, BareAct, NumberAct, PairAct, TextAct, RegRectAct, RegPairAct}
 use Rattle.lw_grammar.specs.Statements.{RegClearAct, CreateAct, OpenAct, InFrontAct, BoxAct, WhichAct, FillAct, ScrollRasterAct}
 use Rattle.lw_grammar.specs.Statements.{PutAct, BlitAct, EndRefreshAct, Statement, LayersLine, ScreenLine, GlyphLine}
 use Rattle.lw_grammar.specs.Statements.{BitmapLine, RowLine, PatternLine, TaskLine, EndLine, OrderLine, NumbersLine, ReportLine}
 use Rattle.lw_grammar.specs.Statements.{CallLine, LockLine, UnlockLine, HoldLine, ReleaseLine, NameSeen, PairMade, GzzAct}
 use Rattle.lw_grammar.specs.Statements.{OpenGzz, BoxGzz, FrontGzz, BehindGzz, InFrontGzz, CloseGzz, Line, StatementLine}
-use Rattle.lw_grammar.specs.Statements.{AreaLine, GzzLine, four}
+use Rattle.lw_grammar.specs.Statements.{AreaLine, GzzLine}
 use Rattle.lw_calls.specs.Written.{hex_byte}
 
 -- words with single spaces between them
@@ -35,12 +35,15 @@ abbrev pub hex_word : List ℕ → List ℕ
 hex_word bytes = flat_map hex_byte bytes
 
 -- four numbers
-abbrev pub four_words : Four → List (List ℕ)
-four_words n = signed_decimal n.first ∷ signed_decimal n.second ∷ signed_decimal n.third ∷ signed_decimal n.fourth ∷ []
+abbrev pub four_words : ℤ → ℤ → ℤ → ℤ → List (List ℕ)
+four_words a b c d = signed_decimal a ∷ signed_decimal b ∷ signed_decimal c ∷ signed_decimal d ∷ []
 
--- those of a rectangle: its bounds
+-- those of a rectangle, which are its bounds, and those of a box
 abbrev pub bounds_words : Rectangle → List (List ℕ)
-bounds_words r = four_words (four r.min_x r.min_y r.max_x r.max_y)
+bounds_words r = four_words r.min_x r.min_y r.max_x r.max_y
+
+abbrev pub box_words : Box → List (List ℕ)
+box_words at = four_words at.x at.y at.w at.h
 
 -- the words of a layer's kind and of its place
 abbrev pub kind_word : Kind → List ℕ
@@ -104,13 +107,13 @@ call_words layers (TextAct verb text) = text_verb_word verb ∷ layers ++ text_w
 call_words layers (RegRectAct op r rect) = rect_word op ∷ signed_decimal r ∷ bounds_words rect
 call_words layers (RegPairAct op s r) = region_word op ∷ signed_decimal s ∷ signed_decimal r ∷ []
 call_words layers (RegClearAct r) = codes "clearregion" ∷ signed_decimal r ∷ []
-call_words layers (CreateAct a) =
-    codes "create" ∷ layers ++ kind_word a.kind ∷ place_word a.place ∷ four_words a.numbers ++ created_words a.kind a
-call_words layers (OpenAct a framed nocare classes title) =
-    codes "open" ∷ layers ++ kind_word a.kind ∷ place_word a.place ∷ four_words a.numbers
+call_words layers (CreateAct rect a) =
+    codes "create" ∷ layers ++ kind_word a.kind ∷ place_word a.place ∷ bounds_words rect ++ created_words a.kind a
+call_words layers (OpenAct at a framed nocare classes title) =
+    codes "open" ∷ layers ++ kind_word a.kind ∷ place_word a.place ∷ box_words at
     ++ opened_words a.kind a framed nocare classes ++ text_word title ∷ []
 call_words layers InFrontAct = codes "infront" ∷ layers
-call_words layers (BoxAct r) = codes "box" ∷ layers ++ four_words r
+call_words layers (BoxAct at) = codes "box" ∷ layers ++ box_words at
 call_words layers (WhichAct x y) = codes "which" ∷ signed_decimal x ∷ signed_decimal y ∷ []
 call_words layers (FillAct rect) = codes "fill" ∷ layers ++ bounds_words rect
 call_words layers (ScrollRasterAct dx dy rect) =
@@ -161,9 +164,9 @@ area_words layer (Some pattern) points =
 
 -- the words of what is done with a window of two layers
 abbrev pub gzz_words : List ℕ → GzzAct → List (List ℕ)
-gzz_words g (OpenGzz inner kind place r classes title) =
-    codes "gopen" ∷ g ∷ inner ∷ kind_word kind ∷ place_word place ∷ four_words r ++ ask_words classes ++ text_word title ∷ []
-gzz_words g (BoxGzz r) = codes "gbox" ∷ g ∷ four_words r
+gzz_words g (OpenGzz inner kind place at classes title) =
+    codes "gopen" ∷ g ∷ inner ∷ kind_word kind ∷ place_word place ∷ box_words at ++ ask_words classes ++ text_word title ∷ []
+gzz_words g (BoxGzz at) = codes "gbox" ∷ g ∷ box_words at
 gzz_words g FrontGzz = codes "gfront" ∷ g ∷ []
 gzz_words g BehindGzz = codes "gbehind" ∷ g ∷ []
 gzz_words g (InFrontGzz other) = codes "ginfront" ∷ g ∷ other ∷ []

@@ -15,7 +15,7 @@ use Rattle.lw_grammar.specs.declared.verb.PairVerb.TheVariants.{Read as ReadVerb
 use Rattle.lw_grammar.specs.declared.verb.Verb.TheVariants.{Bare, Number, Pair, Create as CreateVerb, Fill as FillVerb}
 use Rattle.lw_grammar.specs.Tokens.{NameToken, token_of}
 use Rattle.lw_grammar.specs.Verbs.{verb_of}
-use Rattle.lw_grammar.specs.Statements.{NewLayer, BareAct, NumberAct, PairAct, CreateAct, FillAct, four, line_by, new_without_bitmap, bounds}
+use Rattle.lw_grammar.specs.Statements.{BareAct, NumberAct, PairAct, CreateAct, FillAct, line_by, new_without_bitmap, Act, rectangle}
 use Rattle.lw_grammar.specs.Told.{spelled_call}
 use Rattle.lw_canonical.specs.Spelling.{kind_word, place_word}
 use Rattle.lw_gen.specs.Demo.{layer_between}
@@ -34,15 +34,15 @@ unfolding axis_fits
 axis low high up small =
     and_from _ _ (and_from _ _ (coordinate low (omega (arith, up, small))) (coordinate high small)) (le_true (pos low) (pos high) (omega (arith, ints, up)))
 
--- a layer that is created in front of all others, in these bounds
-abbrev pub new_between : Kind → ℕ → ℕ → ℕ → ℕ → NewLayer
-new_between kind x0 y0 x1 y1 = new_without_bitmap kind Front (four (pos x0) (pos y0) (pos x1) (pos y1)) false None
+-- a creation of a layer in front of all others, in these bounds
+abbrev pub creation_between : Kind → ℕ → ℕ → ℕ → ℕ → Act
+creation_between kind x0 y0 x1 y1 = CreateAct (rectangle (pos x0) (pos y0) (pos x1) (pos y1)) (new_without_bitmap kind Front false None)
 
 -- its call
 size_between : (low high : ℕ) → low ≤ high → (pos high -ℤ pos low) +ℤ pos 1 ≡ pos ((high + 1) - low)
 size_between low high up = omega (arith, ints, up)
 
-pub created_between : (kind : Kind) (x0 y0 x1 y1 slot : ℕ) → x0 ≤ x1 → y0 ≤ y1 → spelled_call [] (CreateAct (new_between kind x0 y0 x1 y1)) (slot ∷ []) ≡ Create slot (layer_between kind x0 y0 x1 y1)
+pub created_between : (kind : Kind) (x0 y0 x1 y1 slot : ℕ) → x0 ≤ x1 → y0 ≤ y1 → spelled_call [] (creation_between kind x0 y0 x1 y1) (slot ∷ []) ≡ Create slot (layer_between kind x0 y0 x1 y1)
 created_between kind x0 y0 x1 y1 slot wide high =
     let w = size_between x0 x1 wide in
     let h = size_between y0 y1 high in
@@ -118,7 +118,7 @@ module _ (l : List ℕ) (plain_name : is_plain l ≡ true) (name : token_of l �
       }
 
   module _ (x0 y0 x1 y1 : ℕ) (wide : x0 ≤ x1) (right : x1 < 1000) (high : y0 ≤ y1) (lower : y1 < 1000) where
-    fits : rect_fits (bounds (four (pos x0) (pos y0) (pos x1) (pos y1))) ≡ true
+    fits : rect_fits (rectangle (pos x0) (pos y0) (pos x1) (pos y1)) ≡ true
     fits = and_from (axis_fits (pos x0) (pos x1)) (axis_fits (pos y0) (pos y1)) (axis x0 x1 wide right) (axis y0 y1 high lower)
 
     a : IsNumber (pos x0)
@@ -137,7 +137,7 @@ module _ (l : List ℕ) (plain_name : is_plain l ≡ true) (name : token_of l �
     words_plain = and_from (is_plain l) _ plain_name (and_from (is_plain (decimal x0)) _ a.plain (and_from (is_plain (decimal y0)) _ b.plain (and_from (is_plain (decimal x1)) _ c.plain (and_from (is_plain (decimal y1)) true d.plain refl))))
 
     -- fill L X0 Y0 X1 Y1
-    pub fill_readable : IsReadable l (FillAct (bounds (four (pos x0) (pos y0) (pos x1) (pos y1))))
+    pub fill_readable : IsReadable l (FillAct (rectangle (pos x0) (pos y0) (pos x1) (pos y1)))
     unfolding verb_of
     fill_readable = record {
       verb = FillVerb;
@@ -158,7 +158,7 @@ module _ (l : List ℕ) (plain_name : is_plain l ≡ true) (name : token_of l �
     }
 
     -- create L simple front X0 Y0 X1 Y1, and create L smart front X0 Y0 X1 Y1
-    pub simple_readable : IsReadable l (CreateAct (new_between Simple x0 y0 x1 y1))
+    pub simple_readable : IsReadable l (creation_between Simple x0 y0 x1 y1)
     unfolding verb_of
     simple_readable = record {
       verb = CreateVerb;
@@ -171,14 +171,14 @@ module _ (l : List ℕ) (plain_name : is_plain l ≡ true) (name : token_of l �
       made = λ i. line_by CreateVerb (name i ∷ NameToken (kind_word Simple) ∷ NameToken (place_word Front) ∷ a.token i ∷ b.token i ∷ c.token i ∷ d.token i ∷ []);
       belongs = refl;
       stands = refl;
-      range = and_from (rect_fits (bounds (four (pos x0) (pos y0) (pos x1) (pos y1)))) true fits refl;
+      range = and_from (rect_fits (rectangle (pos x0) (pos y0) (pos x1) (pos y1))) true fits refl;
       bitmaps = refl;
       group = refl;
       hook = refl;
       tells = λ tasks names n calls groups. refl;
     }
 
-    pub smart_readable : IsReadable l (CreateAct (new_between Smart x0 y0 x1 y1))
+    pub smart_readable : IsReadable l (creation_between Smart x0 y0 x1 y1)
     unfolding verb_of
     smart_readable = record {
       verb = CreateVerb;
@@ -191,7 +191,7 @@ module _ (l : List ℕ) (plain_name : is_plain l ≡ true) (name : token_of l �
       made = λ i. line_by CreateVerb (name i ∷ NameToken (kind_word Smart) ∷ NameToken (place_word Front) ∷ a.token i ∷ b.token i ∷ c.token i ∷ d.token i ∷ []);
       belongs = refl;
       stands = refl;
-      range = and_from (rect_fits (bounds (four (pos x0) (pos y0) (pos x1) (pos y1)))) true fits refl;
+      range = and_from (rect_fits (rectangle (pos x0) (pos y0) (pos x1) (pos y1))) true fits refl;
       bitmaps = refl;
       group = refl;
       hook = refl;

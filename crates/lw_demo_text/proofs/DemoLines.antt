@@ -12,7 +12,7 @@ use Rattle.lw_grammar.specs.Tokens.{token_of}
 use Rattle.lw_grammar.specs.Verbs.{verb_word, verb_of}
 use Rattle.lw_grammar.specs.Statements.{Act, Statement, CallLine, StatementLine, line_by, is_act_in_range, is_line_in_range}
 use Rattle.lw_grammar.specs.Told.{Section, CallsAreDue, NamedPair, Told, nothing_told, and_name, place_among, onto_last, spelled_call, hook_on, told_with}
-use Rattle.lw_grammar.specs.Script.{is_skipped, is_known_in, belongs_in, lacks_name, gives_again, group_has_calls, group_allows, fits_group, are_few, is_no_hook, is_used, has_padding, is_inner, is_paired, is_arranging, is_activating, parts_pair, line_tested}
+use Rattle.lw_grammar.specs.Script.{is_skipped, is_known_in, belongs_in, lacks_name, gives_again, group_has_calls, group_allows, fits_group, are_few, is_no_hook, is_used, has_padding, is_inner, is_paired, is_placing, is_activating, parts_pair, line_tested}
 use Rattle.lw_canonical.specs.Spelling.{words_of, spelled}
 use Rattle.lw_canonical.proofs.PlainWords.{is_plain}
 use Rattle.lw_canonical.proofs.ReadsForward.{line_reads}
@@ -23,8 +23,8 @@ use Rattle.std.proofs.lemmas.Bool.{and_from, le-leb}
 -- What the lines of a demo's script tell below the screen: in this section, with tasks and layers of these names, of which the
 -- nearest task has so many calls, and all have these calls and groups.
 abbrev pub in_demo : Section → List (List ℕ) → List (List ℕ) → ℕ → List (List Call) → List (List Group) → Told
-in_demo section tasks names so_far calls groups =
-    record nothing_told { version = 1; section = section; width = 640; height = 256; depth = 2; tasks = tasks; names = names; so_far = so_far; calls = calls; groups = groups }
+in_demo section tasks names calls_in_task calls groups =
+    record nothing_told { version = 1; section = section; width = 640; height = 256; depth = 2; tasks = tasks; names = names; calls_in_task = calls_in_task; calls = calls; groups = groups }
 
 -- no line parts a window of two layers where there is none
 none_named : (layers : List (List ℕ)) → (list_any (is_paired []) layers ≡ false) × (list_any (is_inner []) layers ≡ false)
@@ -40,7 +40,7 @@ neither false false = refl
 none_parted : (f : Statement) → parts_pair [] f ≡ false
 none_parted (CallLine layers act) =
     let none = none_named layers in
-    ap₂ (λ (a b : Bool). (is_arranging act && a) || (is_activating act && b)) none.0 none.1 ∙ neither (is_arranging act) (is_activating act)
+    ap₂ (λ (a b : Bool). (is_placing act && a) || (is_activating act && b)) none.0 none.1 ∙ neither (is_placing act) (is_activating act)
 none_parted f = refl
 
 -- A statement in range that gives nothing again, where there are no windows of two layers, no group is open, none is padded and no
@@ -55,7 +55,7 @@ tests_pass t f pairs range bitmaps again group few hook padding =
     >>= (λ _. demand (group i) GroupReason
     >>= (λ _. demand (few i) TooMany
     >>= (λ _. demand (not (is_no_hook 0 (hook i))) NoHook
-    >>= (λ _. demand (not (is_used t.used (hook i))) HookUsed
+    >>= (λ _. demand (not (is_used t.hooks_named (hook i))) HookUsed
     >>= (λ _. demand (not (padding i)) Padding))))))))
 
 -- There are few of everything.

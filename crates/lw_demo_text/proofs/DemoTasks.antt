@@ -14,7 +14,7 @@ use Rattle.lw_grammar.specs.Verbs.{verb_of}
 use Rattle.lw_grammar.specs.declared.verb.BareVerb.TheVariants.{Front as FrontVerb}
 use Rattle.lw_grammar.specs.declared.verb.NumberVerb.TheVariants.{APen as APenVerb}
 use Rattle.lw_grammar.specs.declared.verb.PairVerb.TheVariants.{Read as ReadVerb}
-use Rattle.lw_grammar.specs.Statements.{Act, BareAct, NumberAct, PairAct, CreateAct, FillAct, ScreenLine, TaskLine, EndLine, four, line_by, bounds}
+use Rattle.lw_grammar.specs.Statements.{Act, BareAct, NumberAct, PairAct, FillAct, ScreenLine, TaskLine, EndLine, line_by, rectangle}
 use Rattle.lw_grammar.specs.Told.{Section, AssetsAreDue, CallsAreDue, TasksAreDue, Told, nothing_told, spelled_call, plan_of}
 use Rattle.lw_grammar.specs.Script.{are_assets_due, are_tasks_due, are_numbers_due, is_nothing_due}
 use Rattle.lw_grammar.proofs.ScriptTasks.{onto_pushed}
@@ -27,7 +27,7 @@ use Rattle.lw_demo_text.proofs.DemoNames.{layer_name, of_tasks, tasks_named, one
 use Rattle.lw_demo_text.proofs.ReadOn.{alone, IsReached, nothing_reached, line_more, plan_reads_back}
 use Rattle.lw_canonical.proofs.ReadsForward.{line_reads}
 use Rattle.lw_demo_text.proofs.DemoLines.{in_demo, tests_pass, few_in_demo, IsReadable, call_more}
-use Rattle.lw_demo_text.proofs.DemoCalls.{new_between, created_between, front_readable, pen_readable, read_readable, fill_readable, simple_readable, smart_readable}
+use Rattle.lw_demo_text.proofs.DemoCalls.{creation_between, created_between, front_readable, pen_readable, read_readable, fill_readable, simple_readable, smart_readable}
 use Rattle.std.proofs.lemmas.Bool.{and_from}
 use Rattle.std.proofs.lemmas.Nat.{le-div}
 use Rattle.std.proofs.lemmas.List.{map-id}
@@ -47,11 +47,11 @@ module _ (tasks : List (List ℕ)) (few_tasks : length tasks ≤ 16) (calls : Li
   -- a layer more, of each kind
   simple_more : (old new : List (List ℕ)) (l : List ℕ) (slot n x0 y0 x1 y1 : ℕ) (done : List Call) → n < 4096 → IsNamed old new l slot → x0 ≤ x1 → x1 < 1000 → y0 ≤ y1 → y1 < 1000 → IsReached (told_after old n done) → IsReached (told_after new (n + 1) (done ++ Create slot (layer_between Simple x0 y0 x1 y1) ∷ []))
   simple_more old new l slot n x0 y0 x1 y1 done more named wide right high lower reached =
-      one_more old new l slot n done (CreateAct (new_between Simple x0 y0 x1 y1)) (Create slot (layer_between Simple x0 y0 x1 y1)) more named (simple_readable l named.plain named.name x0 y0 x1 y1 wide right high lower) (created_between Simple x0 y0 x1 y1 slot wide high) reached
+      one_more old new l slot n done (creation_between Simple x0 y0 x1 y1) (Create slot (layer_between Simple x0 y0 x1 y1)) more named (simple_readable l named.plain named.name x0 y0 x1 y1 wide right high lower) (created_between Simple x0 y0 x1 y1 slot wide high) reached
 
   smart_more : (old new : List (List ℕ)) (l : List ℕ) (slot n x0 y0 x1 y1 : ℕ) (done : List Call) → n < 4096 → IsNamed old new l slot → x0 ≤ x1 → x1 < 1000 → y0 ≤ y1 → y1 < 1000 → IsReached (told_after old n done) → IsReached (told_after new (n + 1) (done ++ Create slot (layer_between Smart x0 y0 x1 y1) ∷ []))
   smart_more old new l slot n x0 y0 x1 y1 done more named wide right high lower reached =
-      one_more old new l slot n done (CreateAct (new_between Smart x0 y0 x1 y1)) (Create slot (layer_between Smart x0 y0 x1 y1)) more named (smart_readable l named.plain named.name x0 y0 x1 y1 wide right high lower) (created_between Smart x0 y0 x1 y1 slot wide high) reached
+      one_more old new l slot n done (creation_between Smart x0 y0 x1 y1) (Create slot (layer_between Smart x0 y0 x1 y1)) more named (smart_readable l named.plain named.name x0 y0 x1 y1 wide right high lower) (created_between Smart x0 y0 x1 y1 slot wide high) reached
 
   module _ (task : ℕ) (low : task < 16) where
     abbrev names : List (List ℕ)
@@ -79,7 +79,7 @@ module _ (tasks : List (List ℕ)) (few_tasks : length tasks ≤ 16) (calls : Li
           let y0 = picked 192 (stirred (stirred x)) in
           let x1 = x0 + picked 16 (stirred (stirred (stirred x))) in
           let y1 = y0 + picked 16 (stirred (stirred (stirred (stirred x)))) in
-          one_more names names (layer_name task layer) (3 * task + layer) n done (FillAct (bounds (four (pos x0) (pos y0) (pos x1) (pos y1)))) _ more named (fill_readable (layer_name task layer) named.plain named.name x0 y0 x1 y1 (omega arith) (omega (arith, left, few, right)) (omega arith) (omega (arith, upper, lower))) refl reached
+          one_more names names (layer_name task layer) (3 * task + layer) n done (FillAct (rectangle (pos x0) (pos y0) (pos x1) (pos y1))) _ more named (fill_readable (layer_name task layer) named.plain named.name x0 y0 x1 y1 (omega arith) (omega (arith, left, few, right)) (omega arith) (omega (arith, upper, lower))) refl reached
       chosen_more false true c layer n x done small more reached =
           let named = known_layer task layer low small in
           one_more names names (layer_name task layer) (3 * task + layer) n done (NumberAct APenVerb (pos (picked 4 (stirred x)))) _ more named (pen_readable (layer_name task layer) named.plain named.name (picked 4 (stirred x)) (picked_below 4 (stirred x) (omega arith))) refl reached

@@ -23,22 +23,22 @@ record AreFillsOf (layer : List ℕ) (names : List (List ℕ)) (rs : List Rectan
   kept : t.names ≡ names → u.names ≡ names
   calls : u.calls ≡ with_calls (fills (place_among names layer) rs) t.calls
   groups : u.groups ≡ t.groups
-  began : u.began ≡ t.began
-  so_far : u.so_far ≡ t.so_far + length rs
+  calls_before_group : u.calls_before_group ≡ t.calls_before_group
+  calls_in_task : u.calls_in_task ≡ t.calls_in_task + length rs
 
 fills_told : (layer : List ℕ) (names : List (List ℕ)) (rs : List Rectangle) (t : Told) → and_name t.names layer ≡ names
     → AreFillsOf layer names rs t (told_all (fill_lines layer rs) t)
-fills_told layer names [] t e = record { named = e; kept = λ same. same; calls = refl; groups = refl; began = refl; so_far = omega arith }
+fills_told layer names [] t e = record { named = e; kept = λ same. same; calls = refl; groups = refl; calls_before_group = refl; calls_in_task = omega arith }
 fills_told layer names (r ∷ rs) t e =
     let k = fills_told layer names rs (told_with (CallLine (layer ∷ []) (FillAct r)) t) (named_again t.names layer ∙ e) in
-    let more : (told_all (fill_lines layer (r ∷ rs)) t).so_far ≡ (t.so_far + 1) + length rs = k.so_far in
+    let more : (told_all (fill_lines layer (r ∷ rs)) t).calls_in_task ≡ (t.calls_in_task + 1) + length rs = k.calls_in_task in
     record {
       named = k.named;
       kept = λ same. k.kept e;
       calls = k.calls ∙ ap (λ ns. with_calls (fills (place_among names layer) rs) (onto_last (Fill (place_among ns layer) r) t.calls)) e;
       groups = k.groups;
-      began = k.began;
-      so_far = omega (arith, more);
+      calls_before_group = k.calls_before_group;
+      calls_in_task = omega (arith, more);
     }
 
 -- what an area tells
@@ -52,7 +52,7 @@ area_told None layer [] t is = record { calls = refl; groups = refl }
 area_told (Some x) layer [] t is = record { calls = refl; groups = refl }
 area_told (Some x) layer (r ∷ rs) t is =
     let k = fills_told layer (and_name t.names layer) (r ∷ rs) t refl in
-    let own : Group = record { first = t.so_far; last = t.so_far + length rs; hold = Slot (slot_on t layer) } in
+    let own : Group = record { first = t.calls_in_task; last = t.calls_in_task + length rs; hold = Slot (slot_on t layer) } in
     record {
       calls = k.calls;
       groups =
@@ -63,11 +63,11 @@ area_told None layer (r ∷ rs) t is =
     let u : Told = told_all (fill_lines layer (r ∷ rs)) locked in
     let k = fills_told layer (and_name t.names layer) (r ∷ rs) locked (named_again t.names layer) in
     let parts = told_parts (fill_lines layer (r ∷ rs)) (UnlockLine layer ∷ []) locked in
-    let so_far : u.so_far ≡ t.so_far + suc (length rs) = k.so_far in
-    let last : u.so_far - 1 ≡ t.so_far + length rs = omega (arith, so_far) in
-    let own : Group = record { first = t.so_far; last = t.so_far + length rs; hold = Slot (slot_on t layer) } in
+    let calls_in_task : u.calls_in_task ≡ t.calls_in_task + suc (length rs) = k.calls_in_task in
+    let last : u.calls_in_task - 1 ≡ t.calls_in_task + length rs = omega (arith, calls_in_task) in
+    let own : Group = record { first = t.calls_in_task; last = t.calls_in_task + length rs; hold = Slot (slot_on t layer) } in
     let ended : (told_with (UnlockLine layer) u).groups ≡ onto_last own t.groups =
-    λ i. onto_last (record { first = k.began i; last = last i; hold = Slot (place_among (k.kept refl i) layer) }) (k.groups i) in
+    λ i. onto_last (record { first = k.calls_before_group i; last = last i; hold = Slot (place_among (k.kept refl i) layer) }) (k.groups i) in
     record {
       calls = ap (λ (w : Told). w.calls) parts ∙ k.calls;
       groups =

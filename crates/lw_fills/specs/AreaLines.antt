@@ -25,7 +25,9 @@ slot_on t layer = place_among (and_name t.names layer) layer
 abbrev pub groups_after : Told → ℕ → ℕ → List (List Group)
 groups_after t slot zero = t.groups
 groups_after t slot (suc n) =
-    if is_none t.group then onto_last (record { first = t.so_far; last = t.so_far + n; hold = Slot slot }) t.groups else t.groups
+    if is_none t.group
+    then onto_last (record { first = t.calls_in_task; last = t.calls_in_task + n; hold = Slot slot }) t.groups
+    else t.groups
 
 -- Below lines that tell this, an area on a layer gives the task fills, grouped so, and on each desk these are one drawing of the
 -- area's pixels.

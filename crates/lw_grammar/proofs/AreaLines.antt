@@ -72,8 +72,8 @@ record AreFilled (t u : Told) (n : ℕ) : Type 0 where
   section : u.section ≡ t.section
   version : u.version ≡ t.version
   group : u.group ≡ t.group
-  began : u.began ≡ t.began
-  so_far : u.so_far ≡ t.so_far + n
+  calls_before_group : u.calls_before_group ≡ t.calls_before_group
+  calls_in_task : u.calls_in_task ≡ t.calls_in_task + n
 
 module _ (s : Setting) (layer : List ℕ) where
   -- a fill
@@ -90,7 +90,7 @@ module _ (s : Setting) (layer : List ℕ) where
   fill_less : (limits : Limits) (t : Told) (r : Rectangle) → AreCounted limits (told_with (fill r) t) → AreCounted limits t
   fill_less limits t r c =
       let supers : 0 + t.supers ≤ 16 = c.supers in
-      let calls : t.so_far + 1 ≤ limits.calls = c.calls in
+      let calls : t.calls_in_task + 1 ≤ limits.calls = c.calls in
       record {
         tasks = c.tasks;
         bitmaps = c.bitmaps;
@@ -118,11 +118,11 @@ module _ (s : Setting) (layer : List ℕ) where
   -- what fills tell
   fills_tell : (rs : List Rectangle) (t : Told) → AreFilled t (told_all (fill_lines layer rs) t) (length rs)
   fills_tell [] t =
-      record { rows = refl; section = refl; version = refl; group = refl; began = refl; so_far = omega arith }
+      record { rows = refl; section = refl; version = refl; group = refl; calls_before_group = refl; calls_in_task = omega arith }
   fills_tell (r ∷ rs) t =
       let k = fills_tell rs (told_with (fill r) t) in
-      let more : (told_all (fill_lines layer (r ∷ rs)) t).so_far ≡ (t.so_far + 1) + length rs = k.so_far in
-      record { rows = k.rows; section = k.section; version = k.version; group = k.group; began = k.began; so_far = omega (arith, more) }
+      let more : (told_all (fill_lines layer (r ∷ rs)) t).calls_in_task ≡ (t.calls_in_task + 1) + length rs = k.calls_in_task in
+      record { rows = k.rows; section = k.section; version = k.version; group = k.group; calls_before_group = k.calls_before_group; calls_in_task = omega (arith, more) }
 
   -- fills are good
   fills_good : (new : List Statement) (rs : List Rectangle) → MayFill (told new) layer → list_all rect_fits rs ≡ true → AreCounted (limits_of (told new).version) (told_all (fill_lines layer rs) (told new)) → AreGoodLines s new → AreGoodLines s (added (fill_lines layer rs) new)
@@ -139,7 +139,7 @@ module _ (s : Setting) (layer : List ℕ) where
       record { range = refl; named = refl; new = refl; group = ap is_none none; few = counted_few _ _ few; hook = refl; unused = refl; padding = refl } in
       record { here = (rows, calls, tt, refl); tested = tests_pass s above (LockLine layer) tested }
 
-  unlock_good : (new : List Statement) → ((told new).rows_due == 0) ≡ true → are_calls_due (told new).section ≡ true → (told new).group ≡ Some (Locked layer) → (told new).began < (told new).so_far → AreCounted (limits_of (told new).version) (told (UnlockLine layer ∷ new)) → IsGoodLine s new (UnlockLine layer)
+  unlock_good : (new : List Statement) → ((told new).rows_due == 0) ≡ true → are_calls_due (told new).section ≡ true → (told new).group ≡ Some (Locked layer) → (told new).calls_before_group < (told new).calls_in_task → AreCounted (limits_of (told new).version) (told (UnlockLine layer ∷ new)) → IsGoodLine s new (UnlockLine layer)
   unlock_good new rows calls locked some few =
       let ends = and_from _ _ (ap (is_lock_on layer) locked ∙ same_name layer) (lt-ltb _ _ some) in
       let tested : IsStatementTested s new (UnlockLine layer) =
@@ -172,9 +172,9 @@ module _ (s : Setting) (layer : List ℕ) where
       let last : AreCounted (limits_of (told (added fills locked)).version) (told (UnlockLine layer ∷ added fills locked)) = subst Q version (subst P (sym same) whole) in
       let due = ap (λ (t : Told). t.rows_due == 0) same ∙ ap (λ (n : ℕ). n == 0) filled.rows ∙ rows in
       let kept : (told (added fills locked)).group ≡ Some (Locked layer) = ap (λ (t : Told). t.group) same ∙ filled.group in
-      let began : (told (added fills locked)).began ≡ (told above).so_far = ap (λ (t : Told). t.began) same ∙ filled.began in
-      let so_far : (told (added fills locked)).so_far ≡ (told above).so_far + length (r ∷ rs) = ap (λ (t : Told). t.so_far) same ∙ filled.so_far in
-      let ended = unlock_good (added fills locked) due (ap (λ (t : Told). are_calls_due t.section) same ∙ ap are_calls_due filled.section ∙ calls) kept (omega (arith, began, so_far)) last in
+      let calls_before_group : (told (added fills locked)).calls_before_group ≡ (told above).calls_in_task = ap (λ (t : Told). t.calls_before_group) same ∙ filled.calls_before_group in
+      let calls_in_task : (told (added fills locked)).calls_in_task ≡ (told above).calls_in_task + length (r ∷ rs) = ap (λ (t : Told). t.calls_in_task) same ∙ filled.calls_in_task in
+      let ended = unlock_good (added fills locked) due (ap (λ (t : Told). are_calls_due t.section) same ∙ ap are_calls_due filled.section ∙ calls) kept (omega (arith, calls_before_group, calls_in_task)) last in
       subst (AreGoodLines s) (sym (added_parts fills (UnlockLine layer ∷ []) locked)) (ended, inside)
 
 -- The statements of an area that passes its tests are good.

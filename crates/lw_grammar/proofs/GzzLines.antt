@@ -9,7 +9,7 @@ use Rattle.lw_calls.specs.Limits.{limits_of, is_coordinate, is_extent, coordinat
 use Rattle.lw_calls.specs.Kinds.{is_super}
 use Rattle.lw_calls.proofs.LimitLaws.{screen_at_most}
 use Rattle.lw_grammar.specs.declared.verb.BareVerb.TheVariants.{Close as CloseVerb, Front as FrontVerb, Behind as BehindVerb}
-use Rattle.lw_grammar.specs.Statements.{Act, BareAct, OpenAct, InFrontAct, BoxAct, layers_of, Statement, CallLine, HoldLine, ReleaseLine, PairMade, GzzAct, OpenGzz, BoxGzz, FrontGzz, BehindGzz, InFrontGzz, CloseGzz, GzzLine, new_without_bitmap, is_act_in_range, place_and_size_fit, is_gzz_box, is_gzz_in_range, Four}
+use Rattle.lw_grammar.specs.Statements.{Act, BareAct, OpenAct, InFrontAct, BoxAct, layers_of, Statement, CallLine, HoldLine, ReleaseLine, PairMade, GzzAct, OpenGzz, BoxGzz, FrontGzz, BehindGzz, InFrontGzz, CloseGzz, GzzLine, new_without_bitmap, is_act_in_range, box_fits, is_gzz_box, is_gzz_in_range, Box}
 use Rattle.lw_grammar.specs.Told.{OpenGroup, Held, Told, makes_super, hook_on, left_open_by, began_by, inner_box, gzz_calls, inner_by, stands_for, told_with, told, told_all}
 use Rattle.lw_grammar.specs.Script.{Setting, are_calls_due, lacks_name, is_on_all, group_allows, lacks_pair, names_again, comes_between, is_hold, is_no_hook, is_used, are_few, gzz_tested, added}
 use Rattle.lw_grammar.specs.GoodLines.{is_known_act, IsActMade, IsGoodLine, AreGoodLines}
@@ -46,15 +46,15 @@ unfolding within
 axis_small least before whole most x w a b c d e f g = grind (arith, ints, nat_tests)
 
 -- so both boxes are ones that a window may have
-pub boxes_fit : (width height : ℕ) (r : Four) → width ≤ 32767 → height ≤ 32767 → is_gzz_box width height r ≡ true → (place_and_size_fit r ≡ true) × (place_and_size_fit (inner_box r) ≡ true)
+pub boxes_fit : (width height : ℕ) (r : Box) → width ≤ 32767 → height ≤ 32767 → is_gzz_box width height r ≡ true → (box_fits r ≡ true) × (box_fits (inner_box r) ≡ true)
 boxes_fit width height r wide high h =
-    let corner = and_parts (coordinates_fit r.first r.second) _ h in
-    let rest = and_parts (within (pos 9) r.third (pos width) && within (pos 14) r.fourth (pos height)) _ corner.1 in
-    let low = and_parts (is_coordinate r.first) _ corner.0 in
-    let size = and_parts (within (pos 9) r.third (pos width)) _ rest.0 in
-    let far = and_parts (is_coordinate ((r.first +ℤ r.third) -ℤ pos 1)) _ rest.1 in
-    let x = axis_small 9 4 8 width r.first r.third (omega arith) (omega arith) (omega arith) wide low.0 size.0 far.0 in
-    let y = axis_small 14 11 13 height r.second r.fourth (omega arith) (omega arith) (omega arith) high low.1 size.1 far.1 in
+    let corner = and_parts (coordinates_fit r.x r.y) _ h in
+    let rest = and_parts (within (pos 9) r.w (pos width) && within (pos 14) r.h (pos height)) _ corner.1 in
+    let low = and_parts (is_coordinate r.x) _ corner.0 in
+    let size = and_parts (within (pos 9) r.w (pos width)) _ rest.0 in
+    let far = and_parts (is_coordinate ((r.x +ℤ r.w) -ℤ pos 1)) _ rest.1 in
+    let x = axis_small 9 4 8 width r.x r.w (omega arith) (omega arith) (omega arith) wide low.0 size.0 far.0 in
+    let y = axis_small 14 11 13 height r.y r.h (omega arith) (omega arith) (omega arith) high low.1 size.1 far.1 in
     (and_from _ _ corner.0 (and_from _ _ x.0 y.0), and_from _ _ (and_from _ _ x.1 y.1) (and_from _ _ x.2 y.2))
 
 -- A call of a hold group that neither begins nor ends an update and names no hook and no bitmap.
@@ -87,10 +87,10 @@ close_held l = record { long = refl; made = tt; range = refl; all = refl; named 
 infront_held : (l m : List ℕ) → IsHeldCall (l ∷ m ∷ []) InFrontAct
 infront_held l m = record { long = refl; made = tt; range = refl; all = refl; named = λ names. refl; known = λ v. refl; hook = refl; open_ = λ o. refl; begun = λ m n. refl }
 
-box_held : (l : List ℕ) (r : Four) → place_and_size_fit r ≡ true → IsHeldCall (l ∷ []) (BoxAct r)
+box_held : (l : List ℕ) (r : Box) → box_fits r ≡ true → IsHeldCall (l ∷ []) (BoxAct r)
 box_held l r h = record { long = refl; made = tt; range = h; all = refl; named = λ names. refl; known = λ v. refl; hook = refl; open_ = λ o. refl; begun = λ m n. refl }
 
-open_held : (l : List ℕ) (kind : Kind) (place : Place) (r : Four) (framed : Bool) (classes : ℕ) (title : List ℕ) → is_super kind ≡ false → classes < 32 → place_and_size_fit r ≡ true → IsHeldCall (l ∷ []) (OpenAct (new_without_bitmap kind place r false None) framed false classes title)
+open_held : (l : List ℕ) (kind : Kind) (place : Place) (r : Box) (framed : Bool) (classes : ℕ) (title : List ℕ) → is_super kind ≡ false → classes < 32 → box_fits r ≡ true → IsHeldCall (l ∷ []) (OpenAct r (new_without_bitmap kind place false None) framed false classes title)
 open_held l Simple place r framed classes title k c h =
     record { long = refl; made = ((refl, refl), and_right framed false refl, c); range = and_from _ _ h refl; all = refl; named = λ names. refl; known = λ v. refl; hook = refl; open_ = λ o. refl; begun = λ m n. refl }
 open_held l Smart place r framed classes title k c h =
@@ -120,21 +120,21 @@ record AreHeldTold (t u : Told) (n : ℕ) : Type 0 where
   section : u.section ≡ t.section
   version : u.version ≡ t.version
   group : u.group ≡ t.group
-  began : u.began ≡ t.began
-  so_far : u.so_far ≡ t.so_far + n
+  calls_before_group : u.calls_before_group ≡ t.calls_before_group
+  calls_in_task : u.calls_in_task ≡ t.calls_in_task + n
 
 held_tell : (fs : List Statement) (t : Told) → AreHeldCalls fs → AreHeldTold t (told_all fs t) (length fs)
-held_tell [] t h = record { rows = refl; section = refl; version = refl; group = refl; began = refl; so_far = omega arith }
+held_tell [] t h = record { rows = refl; section = refl; version = refl; group = refl; calls_before_group = refl; calls_in_task = omega arith }
 held_tell (CallLine layers act ∷ fs) t h =
     let k = held_tell fs (told_with (CallLine layers act) t) h.1 in
-    let more : (told_all fs (told_with (CallLine layers act) t)).so_far ≡ (t.so_far + 1) + length fs = k.so_far in
+    let more : (told_all fs (told_with (CallLine layers act) t)).calls_in_task ≡ (t.calls_in_task + 1) + length fs = k.calls_in_task in
     record {
       rows = k.rows;
       section = k.section;
       version = k.version;
       group = k.group ∙ h.0.open_ t.group;
-      began = k.began ∙ h.0.begun t.so_far t.began;
-      so_far = omega (arith, more);
+      calls_before_group = k.calls_before_group ∙ h.0.begun t.calls_in_task t.calls_before_group;
+      calls_in_task = omega (arith, more);
     }
 held_tell (f ∷ fs) t h = absurd h
 
@@ -142,7 +142,7 @@ held_tell (f ∷ fs) t h = absurd h
 call_less : (limits : Limits) (t : Told) (layers : List (List ℕ)) (act : Act) → AreCounted limits (told_with (CallLine layers act) t) → AreCounted limits t
 call_less limits t layers act c =
     let supers : cond (makes_super (CallLine layers act)) 1 0 + t.supers ≤ 16 = c.supers in
-    let calls : t.so_far + 1 ≤ limits.calls = c.calls in
+    let calls : t.calls_in_task + 1 ≤ limits.calls = c.calls in
     record {
       tasks = c.tasks;
       bitmaps = c.bitmaps;
@@ -158,7 +158,7 @@ calls_less limits (CallLine layers act ∷ fs) t h c = call_less limits t layers
 calls_less limits (f ∷ fs) t h c = absurd h
 
 -- the same where these are what lines tell that differ in groups alone
-same_counts : (limits : Limits) (t u : Told) → u.tasks ≡ t.tasks → u.bitmap_names ≡ t.bitmap_names → u.pattern_names ≡ t.pattern_names → u.names ≡ t.names → u.supers ≡ t.supers → u.so_far ≡ t.so_far → AreCounted limits u → AreCounted limits t
+same_counts : (limits : Limits) (t u : Told) → u.tasks ≡ t.tasks → u.bitmap_names ≡ t.bitmap_names → u.pattern_names ≡ t.pattern_names → u.names ≡ t.names → u.supers ≡ t.supers → u.calls_in_task ≡ t.calls_in_task → AreCounted limits u → AreCounted limits t
 same_counts limits t u a b c d e f k =
     let tasks = ap length a in
     let bitmaps = ap length b in
@@ -179,7 +179,7 @@ module _ (s : Setting) where
   held_good new layers act m h few =
       let P : Option OpenGroup → Type 0 = λ o. group_allows o layers act ≡ true in
       let Q : Option ℤ → Type 0 = λ o. is_no_hook s.hooks o ≡ false in
-      let R : Option ℤ → Type 0 = λ o. is_used (told new).used o ≡ false in
+      let R : Option ℤ → Type 0 = λ o. is_used (told new).hooks_named o ≡ false in
       let tested : IsStatementTested s new (CallLine layers act) =
       record { range = h.range; named = h.named (told new).bitmap_names; new = refl; group = subst P (sym m.group) h.all; few = counted_few _ _ few; hook = subst Q (sym h.hook) refl; unused = subst R (sym h.hook) refl; padding = refl } in
       record { here = (m.rows, m.calls, (h.long, h.made), h.known (told new).version); tested = tests_pass s new (CallLine layers act) tested }
@@ -201,7 +201,7 @@ module _ (s : Setting) where
       record { here = (rows, calls, tt, refl); tested = tests_pass s above HoldLine tested }
 
   -- and its end after a call
-  release_good : (new : List Statement) → IsHeldHere (told new) → (told new).began < (told new).so_far → AreCounted (limits_of (told new).version) (told new) → IsGoodLine s new ReleaseLine
+  release_good : (new : List Statement) → IsHeldHere (told new) → (told new).calls_before_group < (told new).calls_in_task → AreCounted (limits_of (told new).version) (told new) → IsGoodLine s new ReleaseLine
   release_good new m some few =
       let ends = and_from _ _ (ap is_hold m.group) (lt-ltb _ _ some) in
       let tested : IsStatementTested s new ReleaseLine =
@@ -233,15 +233,15 @@ module _ (s : Setting) where
       let P : Told → Type 0 = λ t. AreCounted limits t in
       let Q : ℕ → Type 0 = λ v. AreCounted (limits_of v) (told (added fs held)) in
       let counts : AreCounted (limits_of (told (added fs held)).version) (told (added fs held)) = subst Q version (subst P (sym same) before) in
-      let began : (told (added fs held)).began ≡ (told above).so_far = ap (λ (t : Told). t.began) same ∙ k.began in
-      let so_far : (told (added fs held)).so_far ≡ (told above).so_far + length fs = ap (λ (t : Told). t.so_far) same ∙ k.so_far in
+      let calls_before_group : (told (added fs held)).calls_before_group ≡ (told above).calls_in_task = ap (λ (t : Told). t.calls_before_group) same ∙ k.calls_before_group in
+      let calls_in_task : (told (added fs held)).calls_in_task ≡ (told above).calls_in_task + length fs = ap (λ (t : Told). t.calls_in_task) same ∙ k.calls_in_task in
       let still : IsHeldHere (told (added fs held)) =
       record {
         rows = ap (λ (t : Told). t.rows_due == 0) same ∙ ap (λ (n : ℕ). n == 0) k.rows ∙ rows;
         calls = ap (λ (t : Told). are_calls_due t.section) same ∙ ap are_calls_due k.section ∙ calls;
         group = ap (λ (t : Told). t.group) same ∙ k.group;
       } in
-      let ended = release_good (added fs held) still (omega (arith, began, so_far, some)) counts in
+      let ended = release_good (added fs held) still (omega (arith, calls_before_group, calls_in_task, some)) counts in
       subst (AreGoodLines s) (sym (added_parts fs (ReleaseLine ∷ []) held)) (ended, inside)
 
 -- the screen below which tasks stand is small

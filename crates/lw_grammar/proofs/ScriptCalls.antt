@@ -1,7 +1,7 @@
 -- The calls that lines spell fit the plan's sizes, and may stand in their groups.
 use Rattle.std.proofs.Common.{◌≡◌, ℕ, ◌<◌, ◌≤◌, Bool, true, false, not, ◌&&◌, nat_le, nat_lt, List, length, slice_index, ℤ, pos, ◌+ℤ◌, ◌-ℤ◌, unsigned_abs, Option, Some, None, option_map, bytes_eq, refl, sym, ap, subst, arith}
 use Rattle.std.specs.List.{list_any}
-use Rattle.lw_region.specs.Rectangle.{within}
+use Rattle.lw_region.specs.Rectangle.{within, Rectangle}
 use Rattle.lw_calls.specs.declared.make.Kind.{Kind}
 use Rattle.lw_calls.specs.declared.make.Kind.TheVariants.{Simple, Smart, SuperBitmap}
 use Rattle.lw_calls.specs.declared.sizes.Sizes.{Sizes}
@@ -15,7 +15,7 @@ use Rattle.lw_grammar.specs.declared.verb.PairVerb.{PairVerb}
 use Rattle.lw_grammar.specs.declared.verb.PairVerb.TheVariants.{Move as MoveVerb}
 use Rattle.lw_grammar.specs.declared.verb.TextVerb.{TextVerb}
 use Rattle.lw_grammar.specs.declared.verb.TextVerb.TheVariants.{Text as TextOf}
-use Rattle.lw_grammar.specs.Statements.{NewLayer, Act, BareAct, NumberAct, PairAct, TextAct, RegRectAct, RegPairAct, RegClearAct, CreateAct, OpenAct, InFrontAct, BoxAct, WhichAct, FillAct, ScrollRasterAct, PutAct, BlitAct, EndRefreshAct, CallLine, is_hook_number, is_own_size, is_new_layer_in_range, place_and_size_fit, is_act_in_range, layers_of, bounds}
+use Rattle.lw_grammar.specs.Statements.{NewLayer, Act, BareAct, NumberAct, PairAct, TextAct, RegRectAct, RegPairAct, RegClearAct, CreateAct, OpenAct, InFrontAct, BoxAct, WhichAct, FillAct, ScrollRasterAct, PutAct, BlitAct, EndRefreshAct, CallLine, is_hook_number, is_own_size, is_new_layer_in_range, is_act_in_range, layers_of, Box, box_fits}
 use Rattle.lw_grammar.specs.Told.{place_among, make_of, created_make, opened_make, bare_call, pair_call, text_call, spelled_call, hook_on}
 use Rattle.lw_grammar.specs.Script.{lacks_name, is_no_hook}
 use Rattle.lw_grammar.specs.GoodLines.{is_known_act, IsNewLayerOf, IsActMade}
@@ -73,25 +73,25 @@ make_made z a x y w h m r k cx cy sw sh =
     and_from _ _ (and_from _ _ (and_from _ _ cx cy) (and_from _ _ sw sh)) (and_from _ _ (new_hook_fits z.hooks a.hook k) (new_kind_fits a.kind a m own.1))
 
 -- of a creation, and of an opening
-created_fits : (z : Sizes) (a : NewLayer) → IsNewLayerOf a.kind a → (rect_fits (bounds a.numbers) && is_new_layer_in_range a) ≡ true → is_no_hook z.hooks a.hook ≡ false → make_fits z (created_make a) ≡ true
-created_fits z a m r k =
-    let parts = and_parts (rect_fits (bounds a.numbers)) (is_new_layer_in_range a) r in
-    let axes = and_parts (axis_fits a.numbers.first a.numbers.third) (axis_fits a.numbers.second a.numbers.fourth) parts.0 in
-    let x = span_fits a.numbers.first a.numbers.third axes.0 in
-    let y = span_fits a.numbers.second a.numbers.fourth axes.1 in
+created_fits : (z : Sizes) (rect : Rectangle) (a : NewLayer) → IsNewLayerOf a.kind a → (rect_fits rect && is_new_layer_in_range a) ≡ true → is_no_hook z.hooks a.hook ≡ false → make_fits z (created_make rect a) ≡ true
+created_fits z rect a m r k =
+    let parts = and_parts (rect_fits rect) (is_new_layer_in_range a) r in
+    let axes = and_parts (axis_fits rect.min_x rect.max_x) (axis_fits rect.min_y rect.max_y) parts.0 in
+    let x = span_fits rect.min_x rect.max_x axes.0 in
+    let y = span_fits rect.min_y rect.max_y axes.1 in
     make_made z a _ _ _ _ m parts.1 k x.0 y.0 x.1 y.1
 
-opened_fits : (z : Sizes) (a : NewLayer) → IsNewLayerOf a.kind a → (place_and_size_fit a.numbers && is_new_layer_in_range a) ≡ true → is_no_hook z.hooks a.hook ≡ false → make_fits z (opened_make a) ≡ true
-opened_fits z a m r k =
-    let parts = and_parts (place_and_size_fit a.numbers) (is_new_layer_in_range a) r in
-    let halves = and_parts (is_coordinate a.numbers.first && is_coordinate a.numbers.second) _ parts.0 in
-    let place = and_parts (is_coordinate a.numbers.first) _ halves.0 in
-    let size = and_parts (is_extent a.numbers.third) _ halves.1 in
+opened_fits : (z : Sizes) (at : Box) (a : NewLayer) → IsNewLayerOf a.kind a → (box_fits at && is_new_layer_in_range a) ≡ true → is_no_hook z.hooks a.hook ≡ false → make_fits z (opened_make at a) ≡ true
+opened_fits z at a m r k =
+    let parts = and_parts (box_fits at) (is_new_layer_in_range a) r in
+    let halves = and_parts (is_coordinate at.x && is_coordinate at.y) _ parts.0 in
+    let place = and_parts (is_coordinate at.x) _ halves.0 in
+    let size = and_parts (is_extent at.w) _ halves.1 in
     make_made z a _ _ _ _ m parts.1 k place.0 place.1 (extent_fits _ size.0) (extent_fits _ size.1)
 
 -- a window that is asked for
-new_window_fits : (z : Sizes) (a : NewLayer) (framed : Bool) (classes : ℕ) → (framed && is_super a.kind) ≡ false → classes < 32 → window_fits (opened_make a) framed classes ≡ true
-new_window_fits z a framed classes f c = and_from _ _ (ap not f) (lt-ltb classes 32 c)
+new_window_fits : (z : Sizes) (at : Box) (a : NewLayer) (framed : Bool) (classes : ℕ) → (framed && is_super a.kind) ≡ false → classes < 32 → window_fits (opened_make at a) framed classes ≡ true
+new_window_fits z at a framed classes f c = and_from _ _ (ap not f) (lt-ltb classes 32 c)
 
 -- The call of an act fits sizes that have its slots, its bitmap and its hook.
 module _ (z : Sizes) (bitmaps : List (List ℕ)) (few : length bitmaps ≤ z.bitmaps) (slots : List ℕ) where
@@ -136,11 +136,11 @@ module _ (z : Sizes) (bitmaps : List (List ℕ)) (few : length bitmaps ≤ z.bit
   act_fits layers (RegRectAct op r rect) m v h b k s = let p = and_parts (within (pos 0) r (pos 7)) _ h in and_from _ _ (below_eight r p.0) p.1
   act_fits layers (RegPairAct op q r) m v h b k s = let p = and_parts (within (pos 0) q (pos 7)) _ h in and_from _ _ (below_eight q p.0) (below_eight r p.1)
   act_fits layers (RegClearAct r) m v h b k s = below_eight r h
-  act_fits layers (CreateAct a) m v h b k s = with_slot _ s (created_fits z a m h k)
-  act_fits layers (OpenAct a framed nocare classes title) m v h b k s =
-      with_slot _ s (and_from _ _ (opened_fits z a m.0 h k) (new_window_fits z a framed classes m.1 m.2))
+  act_fits layers (CreateAct rect a) m v h b k s = with_slot _ s (created_fits z rect a m h k)
+  act_fits layers (OpenAct at a framed nocare classes title) m v h b k s =
+      with_slot _ s (and_from _ _ (opened_fits z at a m.0 h k) (new_window_fits z at a framed classes m.1 m.2))
   act_fits layers InFrontAct m v h b k s = and_from _ _ (slot_fits 2 0 (omega arith) s) (slot_fits 2 1 (omega arith) s)
-  act_fits layers (BoxAct r) m v h b k s = with_slot _ s h
+  act_fits layers (BoxAct at) m v h b k s = with_slot _ s h
   act_fits layers (WhichAct x y) m v h b k s = h
   act_fits layers (FillAct rect) m v h b k s = with_slot _ s h
   act_fits layers (ScrollRasterAct dx dy rect) m v h b k s = with_slot _ s h

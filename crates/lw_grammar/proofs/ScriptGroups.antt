@@ -54,8 +54,8 @@ text_plain verb text = (refl, refl)
 
 -- a call on all layers touches them all, whichever layer it names
 pub touches_all : (bitmaps : List (List ℕ)) (act : Act) (slots : List ℕ) → is_on_all act ≡ true → is_all (slots_of (spelled_call bitmaps act slots)) ≡ true
-touches_all bitmaps (CreateAct a) slots h = refl
-touches_all bitmaps (OpenAct a framed nocare classes title) slots h = refl
+touches_all bitmaps (CreateAct rect a) slots h = refl
+touches_all bitmaps (OpenAct at a framed nocare classes title) slots h = refl
 touches_all bitmaps (BareAct CloseVerb) slots h = refl
 touches_all bitmaps (BareAct FrontVerb) slots h = refl
 touches_all bitmaps (BareAct BehindVerb) slots h = refl
@@ -75,8 +75,8 @@ touches_one bitmaps (RegRectAct op r rect) slots s h k e = absurd (omega arith)
 touches_one bitmaps (RegPairAct op q r) slots s h k e = absurd (omega arith)
 touches_one bitmaps (RegClearAct r) slots s h k e = absurd (omega arith)
 touches_one bitmaps (WhichAct x y) slots s h k e = absurd (omega arith)
-touches_one bitmaps (CreateAct a) slots s h k e = absurd (true≢false h)
-touches_one bitmaps (OpenAct a framed nocare classes title) slots s h k e = absurd (true≢false h)
+touches_one bitmaps (CreateAct rect a) slots s h k e = absurd (true≢false h)
+touches_one bitmaps (OpenAct at a framed nocare classes title) slots s h k e = absurd (true≢false h)
 touches_one bitmaps (BareAct CloseVerb) slots s h k e = absurd (true≢false h)
 touches_one bitmaps (BareAct FrontVerb) slots s h k e = absurd (true≢false h)
 touches_one bitmaps (BareAct BehindVerb) slots s h k e = absurd (true≢false h)

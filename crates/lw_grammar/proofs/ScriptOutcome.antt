@@ -1,19 +1,22 @@
 -- What the outcome of bytes tells: the lines of an input were good, and an input is spelled or a first line is bad.
-use Rattle.std.proofs.Common.{◌≡◌, ℕ, ◌==◌, Bool, true, false, not, cond, min, List, [], ◌∷◌, length, Result, Ok, Err, MatchResult, refl, sym, subst, ◌∙◌, ap, inl, inr, ◌⊎◌}
+use Rattle.std.proofs.Common.{◌≡◌, ℕ, suc, ◌+◌, ◌==◌, Bool, true, false, not, cond, min, List, [], ◌∷◌, ◌++◌, length, Result, Ok, Err, MatchResult, refl, sym, subst, ◌∙◌, ap, inl, inr, ◌⊎◌, arith}
 use Rattle.std.specs.Result.{IfOk}
+use Rattle.lw_grammar.specs.declared.form.Form.{Form}
+use Rattle.lw_grammar.specs.declared.form.Form.TheVariants.{Plain, Ordered, Audited}
 use Rattle.lw_grammar.specs.declared.reason.Reason.{Reason}
 use Rattle.lw_grammar.specs.declared.reason.Reason.TheVariants.{Gzz as GzzReason, Missing}
 use Rattle.lw_grammar.specs.Demands.{◌>>=◌, demand}
 use Rattle.lw_grammar.specs.Lines.{lines}
-use Rattle.lw_grammar.specs.Statements.{Statement, is_line_in_range, BitmapLine, RowLine, Line, StatementLine, AreaLine, GzzLine}
+use Rattle.lw_grammar.specs.Statements.{Statement, is_line_in_range, ScreenLine, BitmapLine, RowLine, TaskLine, EndLine, OrderLine, ReportLine, Line, StatementLine, AreaLine, GzzLine}
 use Rattle.lw_grammar.specs.Told.{Told, stands_for, told}
-use Rattle.lw_grammar.specs.Script.{Setting, is_skipped, are_assets_due, is_nothing_due, lacks_name, gives_again, words_read, parts_pair, line_made, tested_with, statement_tested, line_tested, line_read, added, statements_with, Reached, at_the_top, with_line, at_number, may_end, end_read, lines_read, ScriptInput, input_from, outcome_of, SpellsInput, IsFirstBadIn, IsDecidedIn}
+use Rattle.lw_grammar.specs.Script.{Setting, is_skipped, are_assets_due, are_tasks_due, is_nothing_due, is_audited, lacks_name, gives_again, words_read, parts_pair, line_made, tested_with, statement_tested, line_tested, line_read, added, statements_with, Reached, at_the_top, with_line, at_number, may_end, end_read, lines_read, ScriptInput, input_from, outcome_of, SpellsInput, AreGoodBelow, IsBadBelow, IsFirstBadIn}
+use Rattle.lw_grammar.specs.Laws.{IsDecidedIn}
 use Rattle.lw_grammar.specs.GoodLines.{AreGoodLines}
 use Rattle.lw_grammar.proofs.ScriptStatements.{IsLineHere, line_here}
 use Rattle.lw_grammar.proofs.ScriptSizes.{passed}
 use Rattle.lw_grammar.proofs.AreaLines.{area_good}
 use Rattle.lw_grammar.proofs.GzzLines.{gzz_good}
-use Rattle.std.proofs.lemmas.Bool.{true≢false}
+use Rattle.std.proofs.lemmas.Bool.{true≢false, and_parts}
 
 -- What a line that was read is good for: it may stand here, and its tests hold.
 abbrev pub IsRead : Setting → List Statement → Line → Type 0
@@ -46,8 +49,8 @@ rows_in_assets s (BitmapLine name w h d ∷ above) g e = g.0.here.1
 rows_in_assets s (RowLine bytes ∷ above) g e = rows_in_assets s above g.1 g.0.here.0
 rows_in_assets s (f ∷ above) g e = absurd (true≢false (sym g.0.here.0 ∙ e))
 
--- What good lines give that were read to their end: they are good, and the input may end below them.
-pub record AreRead (s : Setting) (above : List Statement) : Type 0 where
+-- What lines give that were read to their end: they are good, and the input may end below them.
+pub record AreWhole (s : Setting) (above : List Statement) : Type 0 where
   pub good : AreGoodLines s above
   pub ended : may_end s.form (told above).section ≡ true
 
@@ -126,7 +129,7 @@ pub with_good : (s : Setting) (above : List Statement) (line : List ℕ) → Are
 with_good s above line g = line_keeps (AreGoodLines s) s (lines_more s) above line g
 
 -- all lines that are read are good
-lines_good : (s : Setting) (p q : Reached) (ls : List (List ℕ)) → AreGoodLines s p.statements → lines_read s p ls ≡ Ok q → AreRead s q.statements
+lines_good : (s : Setting) (p q : Reached) (ls : List (List ℕ)) → AreGoodLines s p.statements → lines_read s p ls ≡ Ok q → AreWhole s q.statements
 lines_good s p q ls g e =
     let k = lines_keep (AreGoodLines s) s (lines_more s) p q ls g e in
     record { good = k.0; ended = k.1 }
@@ -135,7 +138,7 @@ lines_good s p q ls g e =
 pub record IsOfLines (s : Setting) (bytes : List ℕ) (input : ScriptInput) : Type 0 where
   pub reached : Reached
   pub lines_are : lines_read s at_the_top (lines bytes) ≡ Ok reached
-  pub read : AreRead s reached.statements
+  pub read : AreWhole s reached.statements
   pub is : input ≡ input_from s (told reached.statements) (min (length bytes) reached.place)
 
 pub of_lines : (s : Setting) (bytes : List ℕ) (input : ScriptInput) → SpellsInput s bytes input → IsOfLines s bytes input
@@ -151,33 +154,146 @@ of_lines s bytes input h = go (lines_read s at_the_top (lines bytes)) refl h
         }
     go (Err r) e d = absurd (cc)
 
+-- Nothing is due below a line `report` alone, and there an input may end.
+report_ends : (s : Setting) (above : List Statement) → AreGoodLines s above → is_nothing_due (told above).section ≡ true → may_end s.form (told above).section ≡ true
+report_ends s above g e = go s.form (audited above g e)
+  where
+    audited : (fs : List Statement) → AreGoodLines s fs → is_nothing_due (told fs).section ≡ true → is_audited s.form ≡ true
+    audited [] h d = absurd (true≢false (sym d))
+    audited (ScreenLine w h d ∷ fs) k i = absurd (true≢false (sym i))
+    audited (TaskLine name ∷ fs) k i = absurd (true≢false (sym i))
+    audited (EndLine ∷ fs) k i = absurd (true≢false (sym i))
+    audited (OrderLine ∷ fs) k i = absurd (true≢false (sym i))
+    audited (ReportLine ∷ fs) k i = (and_parts (are_tasks_due (told fs).section) (is_audited s.form) k.0.here.1).1
+    audited (f ∷ fs) k i = audited fs k.1 i
+
+    go : (form : Form) → is_audited form ≡ true → may_end form (told above).section ≡ true
+    go Plain d = absurd (true≢false (sym d))
+    go Ordered d = absurd (true≢false (sym d))
+    go Audited d = e
+
+-- a line that can't be read isn't skipped
+unread : (s : Setting) (above : List Statement) (line : List ℕ) (reason : Reason) → statements_with s above line ≡ Err reason → (is_skipped line ≡ false) × (line_read s (told above) line ≡ Err reason)
+unread s above line reason e = go (is_skipped line) refl e
+  where
+    at_read : (r : Result Line Reason) → (r >>= (λ l. Ok (added (stands_for (told above) l) above))) ≡ Err reason → r ≡ Err reason
+    at_read (Ok l) d = absurd (cc)
+    at_read (Err q) d = let same : Err q ≡ Err reason = d in cc
+
+    go : (b : Bool) → is_skipped line ≡ b → cond b (Ok above) (line_read s (told above) line >>= (λ l. Ok (added (stands_for (told above) l) above))) ≡ Err reason → (is_skipped line ≡ false) × (line_read s (told above) line ≡ Err reason)
+    go true k d = absurd (cc)
+    go false k d = (k, at_read (line_read s (told above) line) d)
+
+-- what is found is no error
+no_error : {A B : Type 0} (a : A) (e : B) → Ok a ≡ Err e → ⊥
+no_error a e h = absurd (cc)
+
+-- The first bad one of further lines, the first of which has this number, below lines with these statements.
+abbrev BadAmong : Setting → List Statement → ℕ → List (List ℕ) → ℕ → Reason → Type 0
+BadAmong s start from ls n reason =
+    (above : List (List ℕ)) × (below : List (List ℕ)) × (statements : List Statement)
+    × (ls ≡ above ++ below) × (n ≡ length above + from) × AreGoodBelow s start above statements × IsBadBelow s statements below reason
+
+stops_among : (s : Setting) (p : Reached) (ls : List (List ℕ)) (n : ℕ) (reason : Reason) → AreGoodLines s p.statements → lines_read s p ls ≡ Err (n, reason) → BadAmong s p.statements p.number ls n reason
+stops_among s p [] n reason g e = at_end (may_end s.form (told p.statements).section) refl e
+  where
+    at_end : (b : Bool) → may_end s.form (told p.statements).section ≡ b → (at_number p.number (demand b Missing) >>= (λ _. Ok p)) ≡ Err (n, reason) → BadAmong s p.statements p.number [] n reason
+    at_end true d h = absurd (cc)
+    at_end false d h =
+        let both : Err (p.number, Missing) ≡ Err (n, reason) = h in
+        let same : (p.number, Missing) ≡ (n, reason) = cc in
+        let here : p.number ≡ n = ap (λ (x : ℕ × Reason). x.0) same in
+        let far : n ≡ 0 + p.number = omega (arith, here) in
+        ([], [], p.statements, refl, far, refl, (d, sym (ap (λ (x : ℕ × Reason). x.1) same)))
+stops_among s p (line ∷ ls) n reason g e =
+    go (is_nothing_due (told p.statements).section) refl (λ more h d. stops_among s (with_line p line more) ls n reason h d) e
+  where
+    Next : Type 0
+    Next = (more : List Statement) → AreGoodLines s more → lines_read s (with_line p line more) ls ≡ Err (n, reason) → BadAmong s more (p.number + 1) ls n reason
+
+    whole : is_nothing_due (told p.statements).section ≡ true → (at_number p.number (demand (may_end s.form (told p.statements).section) Missing) >>= (λ _. Ok p)) ≡ Ok p
+    whole d = ap (λ b. at_number p.number (demand b Missing) >>= (λ _. Ok p)) (report_ends s p.statements g d)
+
+    at_statements : (r : Result (List Statement) Reason) → statements_with s p.statements line ≡ r → IfOk r (AreGoodLines s) → is_nothing_due (told p.statements).section ≡ false → Next → (at_number p.number r >>= (λ more. lines_read s (with_line p line more) ls)) ≡ Err (n, reason) → BadAmong s p.statements p.number (line ∷ ls) n reason
+    at_statements (Ok more) k h due next d =
+        let b = next more h d in
+        let far : n ≡ length b.0 + (p.number + 1) = b.4 in
+        let same : n ≡ suc (length b.0) + p.number = omega (arith, far) in
+        (line ∷ b.0, b.1, b.2, ap (λ l. line ∷ l) b.3, same, (due, more, k, b.5), b.6)
+    at_statements (Err q) k h due next d =
+        let both : Err (p.number, q) ≡ Err (n, reason) = d in
+        let same : (p.number, q) ≡ (n, reason) = cc in
+        let is : q ≡ reason = ap (λ (x : ℕ × Reason). x.1) same in
+        let here : p.number ≡ n = ap (λ (x : ℕ × Reason). x.0) same in
+        let far : n ≡ 0 + p.number = omega (arith, here) in
+        let bad = unread s p.statements line reason (k ∙ ap Err is) in
+        ([], line ∷ ls, p.statements, refl, far, refl, (due, bad.0, bad.1))
+
+    go : (b : Bool) → is_nothing_due (told p.statements).section ≡ b → Next → cond b (end_read s p) (at_number p.number (statements_with s p.statements line) >>= (λ more. lines_read s (with_line p line more) ls)) ≡ Err (n, reason) → BadAmong s p.statements p.number (line ∷ ls) n reason
+    go true due next d = absurd (no_error p (n, reason) (sym (whole due) ∙ d))
+    go false due next d = at_statements (statements_with s p.statements line) refl (with_good s p.statements line g) due next d
+
+-- where reading stops, the first bad line is
+pub stops_at : (s : Setting) (ls : List (List ℕ)) (n : ℕ) (reason : Reason) → lines_read s at_the_top ls ≡ Err (n, reason) → IsFirstBadIn s ls n reason
+stops_at s ls n reason e =
+    let b = stops_among s at_the_top ls n reason tt e in
+    record { above = b.0; below = b.1; statements = b.2; lines_are = b.3; number = b.4; read = b.5; bad = b.6 }
+
+-- a line that is read, where one is due, is followed by the others
+pub line_step : (s : Setting) (p : Reached) (line : List ℕ) (ls : List (List ℕ)) (statements : List Statement) → is_nothing_due (told p.statements).section ≡ false → statements_with s p.statements line ≡ Ok statements → lines_read s p (line ∷ ls) ≡ lines_read s (with_line p line statements) ls
+line_step s p line ls statements due read = rw (due, read) refl
+
+-- at a bad line reading stops
+bad_stops : (s : Setting) (p : Reached) (below : List (List ℕ)) (reason : Reason) → IsBadBelow s p.statements below reason → lines_read s p below ≡ Err (p.number, reason)
+bad_stops s p [] reason b = rw (b.0, b.1) refl
+bad_stops s p (line ∷ ls) reason b =
+    let refused : statements_with s p.statements line ≡ Err reason = rw (b.1, b.2) refl in
+    rw (b.0, refused) refl
+
+-- and so it does below lines that are read
+stops_below : (s : Setting) (p : Reached) (above below : List (List ℕ)) (statements : List Statement) (reason : Reason) → AreGoodBelow s p.statements above statements → IsBadBelow s statements below reason → lines_read s p (above ++ below) ≡ Err (length above + p.number, reason)
+stops_below s p [] below statements reason r b =
+    let near : p.number ≡ 0 + p.number = omega arith in
+    bad_stops s p below reason (subst (λ a. IsBadBelow s a below reason) (sym r) b) ∙ ap (λ k. Err (k, reason)) near
+stops_below s p (line ∷ above) below statements reason r b =
+    let rest = stops_below s (with_line p line r.1) above below statements reason r.3 b in
+    let far : length above + (p.number + 1) ≡ suc (length above) + p.number = omega arith in
+    line_step s p line (above ++ below) r.1 r.0 r.2 ∙ rest ∙ ap (λ k. Err (k, reason)) far
+
+pub bad_is_read : (s : Setting) (ls : List (List ℕ)) (n : ℕ) (reason : Reason) → IsFirstBadIn s ls n reason → lines_read s at_the_top ls ≡ Err (n, reason)
+bad_is_read s ls n reason b =
+    ap (lines_read s at_the_top) b.lines_are ∙ stops_below s at_the_top b.above b.below b.statements reason b.read b.bad ∙ ap (λ k. Err (k, reason)) (sym b.number)
+
 -- what lines give that were read decides their bytes
 pub reads_decide : (s : Setting) (bytes : List ℕ) → MatchResult (lines_read s at_the_top (lines bytes)) (λ p. SpellsInput s bytes (input_from s (told p.statements) (min (length bytes) p.place))) (λ e. IsFirstBadIn s (lines bytes) e.0 e.1)
 reads_decide s bytes = go (lines_read s at_the_top (lines bytes)) refl
   where
     go : (r : Result Reached (ℕ × Reason)) → lines_read s at_the_top (lines bytes) ≡ r → MatchResult r (λ p. SpellsInput s bytes (input_from s (told p.statements) (min (length bytes) p.place))) (λ e. IsFirstBadIn s (lines bytes) e.0 e.1)
     go (Ok p) e = ap (λ r. r >>= (λ q. Ok (input_from s (told q.statements) (min (length bytes) q.place)))) e
-    go (Err r) e = e
+    go (Err r) e = stops_at s (lines bytes) r.0 r.1 e
 
 -- a refusal is that of the first bad line
 pub refused_outcome : (s : Setting) (bytes : List ℕ) (n : ℕ) (r : Reason) → outcome_of s bytes ≡ Err (n, r) → IsFirstBadIn s (lines bytes) n r
-refused_outcome s bytes n r e = go (lines_read s at_the_top (lines bytes)) e
+refused_outcome s bytes n r e = stops_at s (lines bytes) n r (go (lines_read s at_the_top (lines bytes)) e)
   where
     go : (o : Result Reached (ℕ × Reason)) → (o >>= (λ p. Ok (input_from s (told p.statements) (min (length bytes) p.place)))) ≡ Err (n, r) → o ≡ Err (n, r)
     go (Ok p) d = absurd (cc)
     go (Err x) d = let same : Err x ≡ Err (n, r) = d in cc
 
+-- and the first bad line is refused
+pub outcome_refused : (s : Setting) (bytes : List ℕ) (n : ℕ) (r : Reason) → IsFirstBadIn s (lines bytes) n r → outcome_of s bytes ≡ Err (n, r)
+outcome_refused s bytes n r b =
+    ap (λ o. o >>= (λ q. Ok (input_from s (told q.statements) (min (length bytes) q.place)))) (bad_is_read s (lines bytes) n r b)
+
 -- no bytes have a first bad line and spell an input
 pub bad_or_spelled : (s : Setting) (bytes : List ℕ) (n : ℕ) (r : Reason) (p : ScriptInput) → IsFirstBadIn s (lines bytes) n r → SpellsInput s bytes p → ⊥
 bad_or_spelled s bytes n r p b k =
-    let e : outcome_of s bytes ≡ Err (n, r) = ap (λ o. o >>= (λ q. Ok (input_from s (told q.statements) (min (length bytes) q.place)))) b in
-    let d : Ok p ≡ Err (n, r) = sym k ∙ e in
-    absurd (cc)
+    no_error p (n, r) (sym k ∙ outcome_refused s bytes n r b)
 
 -- the first bad line is one, with one reason
 pub one_bad_line : (s : Setting) (ls : List (List ℕ)) (m n : ℕ) (r q : Reason) → IsFirstBadIn s ls m r → IsFirstBadIn s ls n q → (m ≡ n) × (r ≡ q)
 one_bad_line s ls m n r q a b =
-    let both : Err (m, r) ≡ Err (n, q) = sym a ∙ b in
+    let both : Err (m, r) ≡ Err (n, q) = sym (bad_is_read s ls m r a) ∙ bad_is_read s ls n q b in
     let same : (m, r) ≡ (n, q) = cc in
     (ap (λ (p : ℕ × Reason). p.0) same, ap (λ (p : ℕ × Reason). p.1) same)
 

@@ -4,7 +4,8 @@ use Rattle.lw_calls.specs.declared.sizes.Sizes.{Sizes}
 use Rattle.lw_calls.specs.Limits.{limits_of, call_fits}
 use Rattle.lw_grammar.specs.Statements.{Statement}
 use Rattle.lw_grammar.specs.Told.{told, plan_of}
-use Rattle.lw_grammar.specs.Script.{Setting, are_assets_due, may_end, ScriptInput, input_from, SpellsInput, IsRunnableInput}
+use Rattle.lw_grammar.specs.Script.{Setting, are_assets_due, may_end, ScriptInput, input_from, SpellsInput}
+use Rattle.lw_grammar.specs.Laws.{IsRunnableInput}
 use Rattle.lw_grammar.specs.GoodLines.{AreGoodLines}
 use Rattle.lw_grammar.proofs.ScriptOutcome.{rows_in_assets, of_lines}
 use Rattle.lw_grammar.proofs.ScriptSizes.{counted, has_screen, when, sized, begun_tasks, whole_ends, all_glyphs, none_due, bitmaps_made, bitmaps_named, order_small}

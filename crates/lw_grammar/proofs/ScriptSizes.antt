@@ -24,10 +24,10 @@ pub record IsStatementTested (s : Setting) (above : List Statement) (f : Stateme
   pub range : is_line_in_range (told above).version f ≡ true
   pub named : lacks_name (told above).bitmap_names f ≡ false
   pub new : gives_again (told above) f ≡ false
-  pub group : fits_group (told above).group (nat_lt (told above).began (told above).so_far) f ≡ true
+  pub group : fits_group (told above).group (nat_lt (told above).calls_before_group (told above).calls_in_task) f ≡ true
   pub few : are_few (limits_of (told above).version) (told (f ∷ above)) ≡ true
   pub hook : is_no_hook s.hooks (hook_on f) ≡ false
-  pub unused : is_used (told above).used (hook_on f) ≡ false
+  pub unused : is_used (told above).hooks_named (hook_on f) ≡ false
   pub padding : has_padding (told above).row_width f ≡ false
 
 -- a test that was passed holds, and those after it were passed
@@ -46,10 +46,10 @@ tests_passed s above f h =
     let a = passed (is_line_in_range (told above).version f) _ _ h in
     let b = passed (not (lacks_name (told above).bitmap_names f)) _ _ a.1 in
     let c = passed (not (gives_again (told above) f)) _ _ b.1 in
-    let d = passed (fits_group (told above).group (nat_lt (told above).began (told above).so_far) f) _ _ c.1 in
+    let d = passed (fits_group (told above).group (nat_lt (told above).calls_before_group (told above).calls_in_task) f) _ _ c.1 in
     let e = passed (are_few (limits_of (told above).version) (told (f ∷ above))) _ _ d.1 in
     let g = passed (not (is_no_hook s.hooks (hook_on f))) _ _ e.1 in
-    let i = passed (not (is_used (told above).used (hook_on f))) _ _ g.1 in
+    let i = passed (not (is_used (told above).hooks_named (hook_on f))) _ _ g.1 in
     let j = passed_last (not (has_padding (told above).row_width f)) _ i.1 in
     record {
       range = a.0;
@@ -171,13 +171,13 @@ version_first s above g = in_screen (told above).section (and_parts (is_screen_d
 -- before the first task no layer is named and no call made
 record IsUnbegun (above : List Statement) : Type 0 where
   names : (told above).names ≡ []
-  so_far : (told above).so_far ≡ 0
+  calls_in_task : (told above).calls_in_task ≡ 0
 
 unbegun : (s : Setting) (above : List Statement) → AreGoodLines s above → has_begun (told above).section ≡ false → IsUnbegun above
-unbegun s [] g n = record { names = refl; so_far = refl }
+unbegun s [] g n = record { names = refl; calls_in_task = refl }
 unbegun s (ScreenLine w h d ∷ above) g n =
     let b = unbegun s above g.1 (ap has_begun (in_screen (told above).section (here s above (ScreenLine w h d) g).1)) in
-    record { names = b.names; so_far = b.so_far }
+    record { names = b.names; calls_in_task = b.calls_in_task }
 unbegun s (TaskLine name ∷ above) g n = absurd (true≢false n)
 unbegun s (EndLine ∷ above) g n = absurd (true≢false n)
 unbegun s (OrderLine ∷ above) g n = absurd (true≢false n)
@@ -190,7 +190,7 @@ unbegun s (UnlockLine name ∷ above) g n =
     absurd (true≢false (sym (ap has_begun (in_calls (told above).section (here s above (UnlockLine name) g).1)) ∙ n))
 unbegun s (f ∷ above) g n =
     let b = unbegun s above g.1 n in
-    record { names = b.names; so_far = b.so_far }
+    record { names = b.names; calls_in_task = b.calls_in_task }
 
 -- the counts of what lines tell, by a version's limits
 pub record AreCounted (limits : Limits) (t : Told) : Type 0 where
@@ -199,7 +199,7 @@ pub record AreCounted (limits : Limits) (t : Told) : Type 0 where
   pub patterns : length t.pattern_names ≤ 16
   pub names : length t.names ≤ limits.names
   pub supers : t.supers ≤ 16
-  pub calls : t.so_far ≤ limits.calls
+  pub calls : t.calls_in_task ≤ limits.calls
 
 pub few_counted : (limits : Limits) (t : Told) → are_few limits t ≡ true → AreCounted limits t
 few_counted limits t few =
@@ -221,7 +221,7 @@ pub counted_few : (limits : Limits) (t : Told) → AreCounted limits t → are_f
 counted_few limits t c =
     let assets = and_from _ _ (le-leb (length t.bitmap_names) bitmap_limit c.bitmaps) (le-leb (length t.pattern_names) pattern_limit c.patterns) in
     let three = and_from _ _ (and_from _ _ (le-leb (length t.tasks) task_limit c.tasks) assets) (le-leb (length t.names) limits.names c.names) in
-    and_from _ _ three (and_from _ _ (le-leb t.supers super_limit c.supers) (le-leb t.so_far limits.calls c.calls))
+    and_from _ _ three (and_from _ _ (le-leb t.supers super_limit c.supers) (le-leb t.calls_in_task limits.calls c.calls))
 
 -- they stay few in each version where no task has begun
 unbegun_counted : (limits other : Limits) (above : List Statement) → AreCounted limits (told above) → IsUnbegun above → AreCounted other (told above)
@@ -233,7 +233,7 @@ unbegun_counted limits other above c b =
       patterns = c.patterns;
       names = omega (arith, names);
       supers = c.supers;
-      calls = omega (arith, b.so_far);
+      calls = omega (arith, b.calls_in_task);
     }
 
 -- good lines are few

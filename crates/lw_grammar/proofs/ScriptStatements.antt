@@ -1,5 +1,5 @@
 -- What the words of a line that has a statement were good for: where the line stands, and how the statement is made.
-use Rattle.std.proofs.Common.{◌≡◌, ℕ, suc, ◌+◌, ◌*◌, ◌%◌, ◌^◌, ◌<◌, ◌≤◌, ◌==◌, Bool, true, false, not, cond, ◌&&◌, nat_le, List, [], ◌∷◌, length, map, drop, codes, bytes_eq, Option, Some, None, option_map, option_and_then, ok_or, IfSome, refl, sym, ap, subst, ◌∙◌, arith, pow_mono, pow-suc, add-one}
+use Rattle.std.proofs.Common.{ℤ, ◌≡◌, ℕ, suc, ◌+◌, ◌*◌, ◌%◌, ◌^◌, ◌<◌, ◌≤◌, ◌==◌, Bool, true, false, not, cond, ◌&&◌, nat_le, List, [], ◌∷◌, length, map, drop, codes, bytes_eq, Option, Some, None, option_map, option_and_then, ok_or, IfSome, refl, sym, ap, subst, ◌∙◌, arith, pow_mono, pow-suc, add-one}
 use Rattle.std.specs.Result.{IfOk}
 use Rattle.lw_planes.specs.Bitmap.{row_bytes}
 use Rattle.lw_calls.specs.declared.operation.RectOp.{RectOp}
@@ -7,6 +7,7 @@ use Rattle.lw_calls.specs.declared.operation.PairOp.{PairOp}
 use Rattle.lw_calls.specs.declared.make.Kind.{Kind}
 use Rattle.lw_calls.specs.declared.make.Kind.TheVariants.{Simple, Smart, SuperBitmap}
 use Rattle.lw_calls.specs.declared.make.Place.{Place}
+use Rattle.lw_region.specs.Rectangle.{Rectangle}
 use Rattle.lw_grammar.specs.declared.form.Form.{Form}
 use Rattle.lw_grammar.specs.declared.reason.Reason.{Reason}
 use Rattle.lw_grammar.specs.declared.reason.Reason.TheVariants.{UnknownWord, Misplaced, Form as FormReason}
@@ -19,12 +20,12 @@ use Rattle.lw_grammar.specs.declared.verb.TextVerb.{TextVerb}
 use Rattle.lw_grammar.specs.declared.verb.GzzVerb.{GzzVerb}
 use Rattle.lw_grammar.specs.declared.verb.GzzVerb.TheVariants.{Open as OpenVerb, Box as BoxVerb, Front as FrontVerb, Behind as BehindVerb, InFront as InFrontVerb, Close as CloseVerb}
 use Rattle.lw_grammar.specs.declared.verb.Verb.{Verb}
-use Rattle.lw_grammar.specs.declared.verb.Verb.TheVariants.{Part, Bare, Number, Pair, Text, Rect, Region, ClearRegion, Create, Open, InFront, Box, Which, Fill, ScrollRaster, Put, Blit, EndRefresh, Area as AreaVerb, AreaPattern as AreaPatternVerb, Gzz}
+use Rattle.lw_grammar.specs.declared.verb.Verb.TheVariants.{Part, Bare, Number, Pair, Text, Rect, Region, ClearRegion, Create, Open, InFront, Box as BoxOf, Which, Fill, ScrollRaster, Put, Blit, EndRefresh, Area as AreaVerb, AreaPattern as AreaPatternVerb, Gzz}
 use Rattle.lw_calls.specs.Limits.{is_minterm}
 use Rattle.lw_calls.specs.Kinds.{is_super}
 use Rattle.lw_grammar.specs.Tokens.{Token, NameToken, NumberToken, TextToken, OddToken, is_a_text, is_a_name, is_a_number, without_last, value_of_number, token_of, is_hex, hex_value, hex_bytes, spelled_bytes, bytes_in}
 use Rattle.lw_area.specs.Patterns.{is_pattern_count}
-use Rattle.lw_grammar.specs.Statements.{layers_of, NewLayer, Act, BareAct, NumberAct, PairAct, TextAct, RegRectAct, RegPairAct, RegClearAct, OpenAct, InFrontAct, BoxAct, WhichAct, FillAct, ScrollRasterAct, PutAct, BlitAct, EndRefreshAct, Statement, LayersLine, ScreenLine, GlyphLine, BitmapLine, RowLine, PatternLine, TaskLine, EndLine, OrderLine, NumbersLine, ReportLine, CallLine, LockLine, UnlockLine, HoldLine, ReleaseLine, Line, StatementLine, AreaLine, four, layers_line, screen_line, glyph_of_bytes, glyph_line, bitmap_line, row_line, pattern_words, pattern_line, all_numbers, numbers_limit, numbers_line, name_line, alone_line, part_line, layer_line, number_line, pair_line, text_line, rect_line, region_line, clear_line, which_line, infront_line, last_four, four_line, scrollraster_line, minterm_of, blit_end, blit_area, put_line, blit_line, endrefresh_line, kind_of, place_of, flag, hook_option, message_class_of, classes_from, asked_classes, ask_option, at_end, create_super, create_kind, titled_line, open_super, open_kind, new_layer_line, area_points, area_line, area_pattern_line, statement_by, line_by, GzzAct, OpenGzz, BoxGzz, FrontGzz, BehindGzz, InFrontGzz, CloseGzz, GzzLine, inner_kind_of, titled_gzz, opened_gzz, gopen_line, gbox_line, gzz_alone, ginfront_line, gzz_line, Four, bounds}
+use Rattle.lw_grammar.specs.Statements.{layers_of, NewLayer, Act, BareAct, NumberAct, PairAct, TextAct, RegRectAct, RegPairAct, RegClearAct, OpenAct, InFrontAct, BoxAct, WhichAct, FillAct, ScrollRasterAct, PutAct, BlitAct, EndRefreshAct, Statement, LayersLine, ScreenLine, GlyphLine, BitmapLine, RowLine, PatternLine, TaskLine, EndLine, OrderLine, NumbersLine, ReportLine, CallLine, LockLine, UnlockLine, HoldLine, ReleaseLine, Line, StatementLine, AreaLine, layers_line, screen_line, glyph_of_bytes, glyph_line, bitmap_line, row_line, pattern_words, pattern_line, all_numbers, numbers_limit, numbers_line, name_line, alone_line, part_line, layer_line, number_line, pair_line, text_line, rect_line, region_line, clear_line, which_line, infront_line, last_four, four_line, scrollraster_line, minterm_of, blit_end, blit_area, put_line, blit_line, endrefresh_line, kind_of, place_of, flag, hook_option, message_class_of, classes_from, asked_classes, ask_option, at_end, create_super, create_kind, titled_line, open_super, open_kind, new_layer_line, area_points, area_line, area_pattern_line, statement_by, line_by, GzzAct, OpenGzz, BoxGzz, FrontGzz, BehindGzz, InFrontGzz, CloseGzz, GzzLine, inner_kind_of, titled_gzz, opened_gzz, gopen_line, gbox_line, gzz_alone, ginfront_line, gzz_line, Box, box, rectangle}
 use Rattle.lw_grammar.specs.Told.{Section, told}
 use Rattle.lw_grammar.specs.Script.{Setting, is_screen_due, are_assets_due, are_calls_due, are_numbers_due, is_known_in, belongs_in, verb_on, after_verb, verb_read, stated, line_made}
 use Rattle.lw_grammar.specs.GoodLines.{belongs_at, is_known_act, is_known_line, IsNewLayerOf, IsActMade, IsStatementMade, AreBytes, IsStatementHere}
@@ -136,7 +137,7 @@ minterm_made (Some (m ∷ n ∷ ms)) h = tt
 -- what ends a blit's line has one
 end_minterm : (ts : List Token) → IfSome (blit_end ts) (λ end. is_minterm end.1 ≡ true)
 end_minterm (NumberToken a x ∷ NumberToken b y ∷ NumberToken c w ∷ NumberToken d h ∷ mm ∷ []) =
-    map_has (λ m. is_minterm m ≡ true) (λ (end : Four × ℕ). is_minterm end.1 ≡ true) _ (minterm_of (bytes_in 1 mm)) (minterm_made (bytes_in 1 mm) (token_spelled 1 mm)) (λ m k. k)
+    map_has (λ m. is_minterm m ≡ true) (λ (end : Box × ℕ). is_minterm end.1 ≡ true) _ (minterm_of (bytes_in 1 mm)) (minterm_made (bytes_in 1 mm) (token_spelled 1 mm)) (λ m k. k)
 end_minterm _ = tt
 
 -- the least power that a class from this one on adds
@@ -271,17 +272,16 @@ module _ (form : Form) (version : ℕ) (s : Section) where
   text_made verb _ = tt
 
   -- a verb with a layer and four numbers
-  four_made : (act : Four → Act) → ((r : Four) → is_known_act version (act r) ≡ true) → ((r : Four) → 1 ≡ layers_of (act r)) → ((r : Four) → IsActMade (act r)) → (ts : List Token) → IfSome (four_line act ts) (IsVerbStatement form version s (are_calls_due s))
+  four_made : (act : ℤ → ℤ → ℤ → ℤ → Act) → ((x y w h : ℤ) → is_known_act version (act x y w h) ≡ true) → ((x y w h : ℤ) → 1 ≡ layers_of (act x y w h)) → ((x y w h : ℤ) → IsActMade (act x y w h)) → (ts : List Token) → IfSome (four_line act ts) (IsVerbStatement form version s (are_calls_due s))
   four_made act k n h (NameToken l ∷ NumberToken a x ∷ NumberToken b y ∷ NumberToken c w ∷ NumberToken d z ∷ []) =
-      let r = four x y w z in
-      let P : Bool → Type 0 = λ known. IsVerbStatement form version s (known && are_calls_due s) (CallLine (l ∷ []) (act r)) in
-      subst P (k r) (call_so form version s (l ∷ []) (act r) (n r) (h r))
+      let P : Bool → Type 0 = λ known. IsVerbStatement form version s (known && are_calls_due s) (CallLine (l ∷ []) (act x y w z)) in
+      subst P (k x y w z) (call_so form version s (l ∷ []) (act x y w z) (n x y w z) (h x y w z))
   four_made act k n h _ = tt
 
   -- orrect R X0 Y0 X1 Y1, and its kin
   rect_made : (op : RectOp) (ts : List Token) → IfSome (rect_line op ts) (IsVerbStatement form version s (are_calls_due s))
   rect_made op (NumberToken a r ∷ NumberToken b x0 ∷ NumberToken c y0 ∷ NumberToken d x1 ∷ NumberToken e y1 ∷ []) =
-      call_so form version s [] (RegRectAct op r (bounds (four x0 y0 x1 y1))) refl tt
+      call_so form version s [] (RegRectAct op r (rectangle x0 y0 x1 y1)) refl tt
   rect_made op _ = tt
 
   -- orregion S R, and its kin
@@ -307,7 +307,7 @@ module _ (form : Form) (version : ℕ) (s : Section) where
   -- scrollraster L DX DY X0 Y0 X1 Y1
   scrollraster_made : (ts : List Token) → IfSome (scrollraster_line ts) (IsVerbStatement form version s (are_calls_due s))
   scrollraster_made (NameToken l ∷ NumberToken a dx ∷ NumberToken b dy ∷ NumberToken c x0 ∷ NumberToken d y0 ∷ NumberToken e x1 ∷ NumberToken f y1 ∷ []) =
-      call_so form version s (l ∷ []) (ScrollRasterAct dx dy (bounds (four x0 y0 x1 y1))) refl tt
+      call_so form version s (l ∷ []) (ScrollRasterAct dx dy (rectangle x0 y0 x1 y1)) refl tt
   scrollraster_made _ = tt
 
   -- put BM SX SY L X Y W H MM
@@ -333,37 +333,37 @@ module _ (form : Form) (version : ℕ) (s : Section) where
   end_made f h [] = h
   end_made f h (t ∷ ts) = tt
 
-  -- what stands after a creation's four numbers
-  create_super_made : (l : List ℕ) (place : Place) (numbers : Four) (ts : List Token) → IfSome (create_super l place numbers ts) (IsVerbStatement form version s (are_calls_due s))
-  create_super_made l place numbers (NumberToken a w ∷ NumberToken b h ∷ ts) = end_made _ (call_so form version s (l ∷ []) _ refl refl) _
-  create_super_made l place numbers _ = tt
+  -- what stands after a creation's bounds
+  create_super_made : (l : List ℕ) (place : Place) (rect : Rectangle) (ts : List Token) → IfSome (create_super l place rect ts) (IsVerbStatement form version s (are_calls_due s))
+  create_super_made l place rect (NumberToken a w ∷ NumberToken b h ∷ ts) = end_made _ (call_so form version s (l ∷ []) _ refl refl) _
+  create_super_made l place rect _ = tt
 
-  create_made : (l : List ℕ) (place : Place) (numbers : Four) (ts : List Token) (kind : Kind) → IfSome (create_kind l place numbers ts kind) (IsVerbStatement form version s (are_calls_due s))
-  create_made l place numbers ts Simple = end_made _ (call_so form version s (l ∷ []) _ refl (refl, refl)) _
-  create_made l place numbers ts Smart = end_made _ (call_so form version s (l ∷ []) _ refl (refl, refl)) _
-  create_made l place numbers ts SuperBitmap = create_super_made l place numbers ts
+  create_made : (l : List ℕ) (place : Place) (rect : Rectangle) (ts : List Token) (kind : Kind) → IfSome (create_kind l place rect ts kind) (IsVerbStatement form version s (are_calls_due s))
+  create_made l place rect ts Simple = end_made _ (call_so form version s (l ∷ []) _ refl (refl, refl)) _
+  create_made l place rect ts Smart = end_made _ (call_so form version s (l ∷ []) _ refl (refl, refl)) _
+  create_made l place rect ts SuperBitmap = create_super_made l place rect ts
 
   -- the statement at the title
-  titled_made : (l : List ℕ) (layer : NewLayer) (framed nocare : Bool) (classes : ℕ) → IsNewLayerOf layer.kind layer → (framed && is_super layer.kind) ≡ false → classes < 32 → (ts : List Token) → IfSome (titled_line l layer framed nocare classes ts) (IsVerbStatement form version s (are_calls_due s))
-  titled_made l layer framed nocare classes a f c (TextToken title ∷ []) =
-      call_so form version s (l ∷ []) (OpenAct layer framed nocare classes title) refl (a, f, c)
-  titled_made l layer framed nocare classes a f c _ = tt
+  titled_made : (l : List ℕ) (at : Box) (layer : NewLayer) (framed nocare : Bool) (classes : ℕ) → IsNewLayerOf layer.kind layer → (framed && is_super layer.kind) ≡ false → classes < 32 → (ts : List Token) → IfSome (titled_line l at layer framed nocare classes ts) (IsVerbStatement form version s (are_calls_due s))
+  titled_made l at layer framed nocare classes a f c (TextToken title ∷ []) =
+      call_so form version s (l ∷ []) (OpenAct at layer framed nocare classes title) refl (a, f, c)
+  titled_made l at layer framed nocare classes a f c _ = tt
 
-  -- what stands after an opening's four numbers
-  open_super_made : (l : List ℕ) (place : Place) (numbers : Four) (ts : List Token) → IfSome (open_super l place numbers ts) (IsVerbStatement form version s (are_calls_due s))
-  open_super_made l place numbers (NumberToken a w ∷ NumberToken b h ∷ ts) = titled_made l _ false false _ refl refl (ask_small ((flag (codes "backdrop") ts).1)) _
-  open_super_made l place numbers _ = tt
+  -- what stands after an opening's box
+  open_super_made : (l : List ℕ) (place : Place) (at : Box) (ts : List Token) → IfSome (open_super l place at ts) (IsVerbStatement form version s (are_calls_due s))
+  open_super_made l place at (NumberToken a w ∷ NumberToken b h ∷ ts) = titled_made l at _ false false _ refl refl (ask_small ((flag (codes "backdrop") ts).1)) _
+  open_super_made l place at _ = tt
 
-  open_made : (l : List ℕ) (place : Place) (numbers : Four) (ts : List Token) (kind : Kind) → IfSome (open_kind l place numbers ts kind) (IsVerbStatement form version s (are_calls_due s))
-  open_made l place numbers ts Simple = titled_made l _ _ _ _ (refl, refl) (and_right _ false refl) (ask_small (behind_hook ts)) _
-  open_made l place numbers ts Smart = titled_made l _ _ _ _ (refl, refl) (and_right _ false refl) (ask_small (behind_hook ts)) _
-  open_made l place numbers ts SuperBitmap = open_super_made l place numbers ts
+  open_made : (l : List ℕ) (place : Place) (at : Box) (ts : List Token) (kind : Kind) → IfSome (open_kind l place at ts kind) (IsVerbStatement form version s (are_calls_due s))
+  open_made l place at ts Simple = titled_made l at _ _ _ _ (refl, refl) (and_right _ false refl) (ask_small (behind_hook ts)) _
+  open_made l place at ts Smart = titled_made l at _ _ _ _ (refl, refl) (and_right _ false refl) (ask_small (behind_hook ts)) _
+  open_made l place at ts SuperBitmap = open_super_made l place at ts
 
   -- create L KIND PLACE X0 Y0 X1 Y1 .., and open L KIND PLACE X Y W H ..
-  new_layer_made : (behind : List ℕ → Place → Four → List Token → Kind → Option Statement) → ((l : List ℕ) (place : Place) (numbers : Four) (ts : List Token) (kind : Kind) → IfSome (behind l place numbers ts kind) (IsVerbStatement form version s (are_calls_due s))) → (ts : List Token) → IfSome (new_layer_line behind ts) (IsVerbStatement form version s (are_calls_due s))
-  new_layer_made behind made (NameToken l ∷ NameToken k ∷ NameToken p ∷ NumberToken a x ∷ NumberToken b y ∷ NumberToken c z ∷ NumberToken d w ∷ ts) =
-      then_has (IsVerbStatement form version s (are_calls_due s)) _ (place_of p) (λ place. then_has (IsVerbStatement form version s (are_calls_due s)) _ (kind_of k) (λ kind. made l place (four x y z w) ts kind))
-  new_layer_made behind made _ = tt
+  new_layer_made : {A : Type 0} (make : ℤ → ℤ → ℤ → ℤ → A) (rest : List ℕ → Place → A → List Token → Kind → Option Statement) → ((l : List ℕ) (place : Place) (at : A) (ts : List Token) (kind : Kind) → IfSome (rest l place at ts kind) (IsVerbStatement form version s (are_calls_due s))) → (ts : List Token) → IfSome (new_layer_line make rest ts) (IsVerbStatement form version s (are_calls_due s))
+  new_layer_made make rest made (NameToken l ∷ NameToken k ∷ NameToken p ∷ NumberToken a x ∷ NumberToken b y ∷ NumberToken c z ∷ NumberToken d w ∷ ts) =
+      then_has (IsVerbStatement form version s (are_calls_due s)) _ (place_of p) (λ place. then_has (IsVerbStatement form version s (are_calls_due s)) _ (kind_of k) (λ kind. made l place (make x y z w) ts kind))
+  new_layer_made make rest made _ = tt
 
 -- so it is for each verb
 verb_made : (form : Form) (version : ℕ) (s : Section) (verb : Verb) (ts : List Token) → IfSome (statement_by verb ts) (IsVerbStatement form version s (is_known_in version verb && belongs_in form version s verb))
@@ -375,12 +375,12 @@ verb_made form version s (Text verb) ts = text_made form version s verb ts
 verb_made form version s (Rect op) ts = rect_made form version s op ts
 verb_made form version s (Region op) ts = region_made form version s op ts
 verb_made form version s ClearRegion ts = clear_made form version s ts
-verb_made form version s Create ts = new_layer_made form version s create_kind (create_made form version s) ts
-verb_made form version s Open ts = new_layer_made form version s open_kind (open_made form version s) ts
+verb_made form version s Create ts = new_layer_made form version s rectangle create_kind (create_made form version s) ts
+verb_made form version s Open ts = new_layer_made form version s box open_kind (open_made form version s) ts
 verb_made form version s InFront ts = infront_made form version s ts
-verb_made form version s Box ts = four_made form version s (λ r. BoxAct r) (λ r. refl) (λ r. refl) (λ r. tt) ts
+verb_made form version s BoxOf ts = four_made form version s (λ x y w h. BoxAct (box x y w h)) (λ x y w h. refl) (λ x y w h. refl) (λ x y w h. tt) ts
 verb_made form version s Which ts = which_made form version s ts
-verb_made form version s Fill ts = four_made form version s (λ n. FillAct (bounds n)) (λ r. refl) (λ r. refl) (λ r. tt) ts
+verb_made form version s Fill ts = four_made form version s (λ x0 y0 x1 y1. FillAct (rectangle x0 y0 x1 y1)) (λ x0 y0 x1 y1. refl) (λ x0 y0 x1 y1. refl) (λ x0 y0 x1 y1. tt) ts
 verb_made form version s ScrollRaster ts = scrollraster_made form version s ts
 verb_made form version s Put ts = put_made form version s ts
 verb_made form version s Blit ts = blit_made form version s ts
@@ -471,12 +471,12 @@ module _ (s : Setting) (above : List Statement) (rows : ((told above).rows_due =
   gzz_so g act h = record { rows = rows; calls = calls; version = version; made = h }
 
   -- gopen G I KIND PLACE X Y W H ..
-  titled_gzz_here : (g i : List ℕ) (kind : Kind) (place : Place) (box : Four) (classes : ℕ) → is_super kind ≡ false → classes < 32 → (ts : List Token) → IfSome (titled_gzz g i kind place box classes ts) (IsLineHere s above)
-  titled_gzz_here g i kind place box classes k c (TextToken title ∷ []) = gzz_so g (OpenGzz i kind place box classes title) (k, c)
-  titled_gzz_here g i kind place box classes k c _ = tt
+  titled_gzz_here : (g i : List ℕ) (kind : Kind) (place : Place) (at : Box) (classes : ℕ) → is_super kind ≡ false → classes < 32 → (ts : List Token) → IfSome (titled_gzz g i kind place at classes ts) (IsLineHere s above)
+  titled_gzz_here g i kind place at classes k c (TextToken title ∷ []) = gzz_so g (OpenGzz i kind place at classes title) (k, c)
+  titled_gzz_here g i kind place at classes k c _ = tt
 
-  opened_gzz_here : (g i : List ℕ) (place : Place) (box : Four) (ts : List Token) (kind : Kind) → is_super kind ≡ false → IfSome (opened_gzz g i place box ts kind) (IsLineHere s above)
-  opened_gzz_here g i place box ts kind k = titled_gzz_here g i kind place box _ k (ask_small ts) _
+  opened_gzz_here : (g i : List ℕ) (place : Place) (at : Box) (ts : List Token) (kind : Kind) → is_super kind ≡ false → IfSome (opened_gzz g i place at ts kind) (IsLineHere s above)
+  opened_gzz_here g i place at ts kind k = titled_gzz_here g i kind place at _ k (ask_small ts) _
 
   inner_kind_here : (w : List ℕ) (f : Kind → Option Line) → ((kind : Kind) → is_super kind ≡ false → IfSome (f kind) (IsLineHere s above)) → IfSome (option_and_then f (inner_kind_of w)) (IsLineHere s above)
   inner_kind_here w f h = step (bytes_eq w (codes "simple")) (bytes_eq w (codes "smart"))
@@ -488,12 +488,12 @@ module _ (s : Setting) (above : List Statement) (rows : ((told above).rows_due =
 
   gopen_here : (ts : List Token) → IfSome (gopen_line ts) (IsLineHere s above)
   gopen_here (NameToken g ∷ NameToken i ∷ NameToken k ∷ NameToken p ∷ NumberToken a x ∷ NumberToken b y ∷ NumberToken c z ∷ NumberToken d w ∷ ts) =
-      then_has (IsLineHere s above) _ (place_of p) (λ place. inner_kind_here k _ (λ kind h. opened_gzz_here g i place (four x y z w) ts kind h))
+      then_has (IsLineHere s above) _ (place_of p) (λ place. inner_kind_here k _ (λ kind h. opened_gzz_here g i place (box x y z w) ts kind h))
   gopen_here _ = tt
 
   -- gbox G X Y W H
   gbox_here : (ts : List Token) → IfSome (gbox_line ts) (IsLineHere s above)
-  gbox_here (NameToken g ∷ ts) = map_all (IsLineHere s above) (λ r. GzzLine g (BoxGzz r)) (last_four ts) (λ r. gzz_so g (BoxGzz r) tt)
+  gbox_here (NameToken g ∷ ts) = map_all (IsLineHere s above) (λ at. GzzLine g (BoxGzz at)) (last_four box ts) (λ at. gzz_so g (BoxGzz at) tt)
   gbox_here _ = tt
 
   -- gfront G, and its kin

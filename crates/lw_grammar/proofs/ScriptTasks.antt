@@ -27,9 +27,9 @@ use Rattle.std.proofs.lemmas.List.Elements.{All-nil, All-cons, All-push}
 pub record View : Type 0 where
   pub calls : List (List Call)
   pub groups : List (List Group)
-  pub so_far : ℕ
+  pub calls_in_task : ℕ
   pub group : Option OpenGroup
-  pub began : ℕ
+  pub calls_before_group : ℕ
   pub names : List (List ℕ)
 
 abbrev pub view_of : List Statement → View
@@ -37,9 +37,9 @@ view_of above =
     record {
       calls = (told above).calls;
       groups = (told above).groups;
-      so_far = (told above).so_far;
+      calls_in_task = (told above).calls_in_task;
       group = (told above).group;
-      began = (told above).began;
+      calls_before_group = (told above).calls_before_group;
       names = (told above).names;
     }
 
@@ -50,9 +50,9 @@ pub record IsTaskFit (z : Sizes) (calls : List Call) (groups : List Group) : Typ
   pub grouped : groups_fit calls groups ≡ true
 
 -- an open group began after the groups before it
-pub record IsOpen (so_far began : ℕ) (groups : List Group) : Type 0 where
-  pub before : EndBefore groups began
-  pub order : began ≤ so_far
+pub record IsOpen (calls_in_task calls_before_group : ℕ) (groups : List Group) : Type 0 where
+  pub before : EndBefore groups calls_before_group
+  pub order : calls_before_group ≤ calls_in_task
 
 -- the calls of an open update: its beginning, and calls on its layer
 abbrev pub IsUpdating : ℕ → List Call → Type 0
@@ -65,17 +65,17 @@ are_held calls = list_all (λ c. is_all (slots_of c)) calls
 
 -- what is known of the open group of a task with so many calls so far
 abbrev pub OpenState : Option OpenGroup → ℕ → ℕ → List (List ℕ) → List Call → List Group → Type 0
-OpenState None so_far began names calls groups = EndBefore groups so_far
-OpenState (Some (Locked l)) so_far began names calls groups =
-    IsOpen so_far began groups × (list_any (bytes_eq l) names ≡ true) × (list_all (may_be_locked (place_among names l)) (drop began calls) ≡ true)
-OpenState (Some (Updating l)) so_far began names calls groups = IsOpen so_far began groups × (list_any (bytes_eq l) names ≡ true) × IsUpdating (place_among names l) (drop began calls)
-OpenState (Some Held) so_far began names calls groups = IsOpen so_far began groups × (are_held (drop began calls) ≡ true)
+OpenState None calls_in_task calls_before_group names calls groups = EndBefore groups calls_in_task
+OpenState (Some (Locked l)) calls_in_task calls_before_group names calls groups =
+    IsOpen calls_in_task calls_before_group groups × (list_any (bytes_eq l) names ≡ true) × (list_all (may_be_locked (place_among names l)) (drop calls_before_group calls) ≡ true)
+OpenState (Some (Updating l)) calls_in_task calls_before_group names calls groups = IsOpen calls_in_task calls_before_group groups × (list_any (bytes_eq l) names ≡ true) × IsUpdating (place_among names l) (drop calls_before_group calls)
+OpenState (Some Held) calls_in_task calls_before_group names calls groups = IsOpen calls_in_task calls_before_group groups × (are_held (drop calls_before_group calls) ≡ true)
 
 -- the nearest task fits so far
 pub record IsNow (z : Sizes) (v : View) (calls : List Call) (groups : List Group) : Type 0 where
-  pub long : length calls ≡ v.so_far
+  pub long : length calls ≡ v.calls_in_task
   pub fits : IsTaskFit z calls groups
-  pub state : OpenState v.group v.so_far v.began v.names calls groups
+  pub state : OpenState v.group v.calls_in_task v.calls_before_group v.names calls groups
 
 -- all tasks fit, the nearest of them so far
 pub record HaveBegun (z : Sizes) (v : View) : Type 0 where
@@ -127,13 +127,13 @@ pub nothing_fits : (z : Sizes) → IsTaskFit z [] []
 nothing_fits z = record { few = omega arith; fit = All-nil _; grouped = refl }
 
 -- no calls have been made in a task that has just begun
-task_now : (z : Sizes) (v : View) → v.so_far ≡ 0 → v.group ≡ None → IsNow z v [] []
+task_now : (z : Sizes) (v : View) → v.calls_in_task ≡ 0 → v.group ≡ None → IsNow z v [] []
 task_now z v e n =
-    let P : Option OpenGroup → Type 0 = λ g. OpenState g v.so_far v.began v.names [] [] in
+    let P : Option OpenGroup → Type 0 = λ g. OpenState g v.calls_in_task v.calls_before_group v.names [] [] in
     record { long = sym e; fits = nothing_fits z; state = subst P (sym n) tt }
 
 -- a task begins after others
-task_more : (z : Sizes) (v : View) (w : View) → w.calls ≡ v.calls ++ [] ∷ [] → w.groups ≡ v.groups ++ [] ∷ [] → w.so_far ≡ 0 → w.group ≡ None → HaveBegun z v → HaveBegun z w
+task_more : (z : Sizes) (v : View) (w : View) → w.calls ≡ v.calls ++ [] ∷ [] → w.groups ≡ v.groups ++ [] ∷ [] → w.calls_in_task ≡ 0 → w.group ≡ None → HaveBegun z v → HaveBegun z w
 task_more z v w a g e n b =
     record {
       done = b.done ++ b.calls ∷ [];
@@ -147,7 +147,7 @@ task_more z v w a g e n b =
     }
 
 -- the first task begins
-task_first : (z : Sizes) (v : View) (w : View) → w.calls ≡ v.calls ++ [] ∷ [] → w.groups ≡ v.groups ++ [] ∷ [] → w.so_far ≡ 0 → w.group ≡ None → (v.calls ≡ []) × (v.groups ≡ []) → HaveBegun z w
+task_first : (z : Sizes) (v : View) (w : View) → w.calls ≡ v.calls ++ [] ∷ [] → w.groups ≡ v.groups ++ [] ∷ [] → w.calls_in_task ≡ 0 → w.group ≡ None → (v.calls ≡ []) × (v.groups ≡ []) → HaveBegun z w
 task_first z v w a g e n h =
     record {
       done = [];
@@ -161,7 +161,7 @@ task_first z v w a g e n h =
     }
 
 -- a task begins
-task_begins : (z : Sizes) (c : Section) (v w : View) → (are_assets_due c || are_tasks_due c) ≡ true → w.calls ≡ v.calls ++ [] ∷ [] → w.groups ≡ v.groups ++ [] ∷ [] → w.so_far ≡ 0 → w.group ≡ v.group → AreTasks z c v → HaveBegun z w
+task_begins : (z : Sizes) (c : Section) (v w : View) → (are_assets_due c || are_tasks_due c) ≡ true → w.calls ≡ v.calls ++ [] ∷ [] → w.groups ≡ v.groups ++ [] ∷ [] → w.calls_in_task ≡ 0 → w.group ≡ v.group → AreTasks z c v → HaveBegun z w
 task_begins z ScreenIsDue v w p a g e n h = absurd (false≢true p)
 task_begins z AssetsAreDue v w p a g e n h = task_first z v w a g e (n ∙ h.closed refl) h.tasks
 task_begins z CallsAreDue v w p a g e n h = absurd (false≢true p)
@@ -178,21 +178,21 @@ inside z c v w e f h =
     subst Q (sym e) (record { closed = λ d. absurd (true≢false d); tasks = f at.tasks })
 
 -- more calls leave an open group open
-open_later : (m n began : ℕ) (groups : List Group) → m ≤ n → IsOpen m began groups → IsOpen n began groups
-open_later m n began groups h o = record { before = o.before; order = omega (arith, o.order, h) }
+open_later : (m n calls_before_group : ℕ) (groups : List Group) → m ≤ n → IsOpen m calls_before_group groups → IsOpen n calls_before_group groups
+open_later m n calls_before_group groups h o = record { before = o.before; order = omega (arith, o.order, h) }
 
 -- what is known by a layer's slot is known by its slot among more names
 slot_later : (P : ℕ → Type 0) (names ns : List (List ℕ)) (l : List ℕ) → list_any (bytes_eq l) names ≡ true → P (place_among names l) → P (place_among (and_names names ns) l)
 slot_later P names ns l h p = subst P (sym (place_kept (bytes_eq l) names ns h)) p
 
 -- more names leave the state of a group as it was
-names_later : (o : Option OpenGroup) (so_far began : ℕ) (names ns : List (List ℕ)) (calls : List Call) (groups : List Group) → OpenState o so_far began names calls groups → OpenState o so_far began (and_names names ns) calls groups
-names_later None so_far began names ns calls groups h = h
-names_later (Some (Locked l)) so_far began names ns calls groups h =
-    (h.0, any_kept (bytes_eq l) names ns h.1, slot_later (λ s. list_all (may_be_locked s) (drop began calls) ≡ true) names ns l h.1 h.2)
-names_later (Some (Updating l)) so_far began names ns calls groups h =
-    (h.0, any_kept (bytes_eq l) names ns h.1, slot_later (λ s. IsUpdating s (drop began calls)) names ns l h.1 h.2)
-names_later (Some Held) so_far began names ns calls groups h = h
+names_later : (o : Option OpenGroup) (calls_in_task calls_before_group : ℕ) (names ns : List (List ℕ)) (calls : List Call) (groups : List Group) → OpenState o calls_in_task calls_before_group names calls groups → OpenState o calls_in_task calls_before_group (and_names names ns) calls groups
+names_later None calls_in_task calls_before_group names ns calls groups h = h
+names_later (Some (Locked l)) calls_in_task calls_before_group names ns calls groups h =
+    (h.0, any_kept (bytes_eq l) names ns h.1, slot_later (λ s. list_all (may_be_locked s) (drop calls_before_group calls) ≡ true) names ns l h.1 h.2)
+names_later (Some (Updating l)) calls_in_task calls_before_group names ns calls groups h =
+    (h.0, any_kept (bytes_eq l) names ns h.1, slot_later (λ s. IsUpdating s (drop calls_before_group calls)) names ns l h.1 h.2)
+names_later (Some Held) calls_in_task calls_before_group names ns calls groups h = h
 
 -- a call on the one layer may be locked
 locked_call : (bitmaps names : List (List ℕ)) (l : List ℕ) (layers : List (List ℕ)) (act : Act) → length layers ≡ layers_of act → is_on_one l layers act ≡ true → is_beginning act ≡ false → is_ending act ≡ false → may_be_locked (place_among names l) (spelled_call bitmaps act (map (place_among names) layers)) ≡ true
@@ -206,25 +206,25 @@ updating_more s [] c h k = absurd h
 updating_more s (b ∷ cs) c h k = (h.0, all_pushed (may_be_locked s) cs c h.1 k)
 
 -- A call that neither begins nor ends an update leaves the open group open.
-plain_state : (o : Option OpenGroup) (so_far began : ℕ) (names layers : List (List ℕ)) (act : Act) (bitmaps : List (List ℕ)) (calls : List Call) (groups : List Group) → length calls ≡ so_far → length layers ≡ layers_of act → is_beginning act ≡ false → is_ending act ≡ false → group_allows o layers act ≡ true → OpenState o so_far began (and_names names layers) calls groups → OpenState o (so_far + 1) began (and_names names layers) (calls ++ spelled_call bitmaps act (map (place_among (and_names names layers)) layers) ∷ []) groups
-plain_state None so_far began names layers act bitmaps calls groups long n begins ends stands h = end_later groups so_far (so_far + 1) h (omega arith)
-plain_state (Some (Locked l)) so_far began names layers act bitmaps calls groups long n begins ends stands h =
+plain_state : (o : Option OpenGroup) (calls_in_task calls_before_group : ℕ) (names layers : List (List ℕ)) (act : Act) (bitmaps : List (List ℕ)) (calls : List Call) (groups : List Group) → length calls ≡ calls_in_task → length layers ≡ layers_of act → is_beginning act ≡ false → is_ending act ≡ false → group_allows o layers act ≡ true → OpenState o calls_in_task calls_before_group (and_names names layers) calls groups → OpenState o (calls_in_task + 1) calls_before_group (and_names names layers) (calls ++ spelled_call bitmaps act (map (place_among (and_names names layers)) layers) ∷ []) groups
+plain_state None calls_in_task calls_before_group names layers act bitmaps calls groups long n begins ends stands h = end_later groups calls_in_task (calls_in_task + 1) h (omega arith)
+plain_state (Some (Locked l)) calls_in_task calls_before_group names layers act bitmaps calls groups long n begins ends stands h =
     let more : List (List ℕ) = and_names names layers in
     let c : Call = spelled_call bitmaps act (map (place_among more) layers) in
     let fits = locked_call bitmaps more l layers act n (and_parts (is_on_one l layers act) _ stands).0 begins ends in
     let P : List Call → Type 0 = λ cs. list_all (may_be_locked (place_among more l)) cs ≡ true in
-    (open_later so_far (so_far + 1) began groups (omega arith) h.0, h.1, subst P (sym (drop_pushed calls c began (omega (arith, long, h.0.order)))) (all_pushed (may_be_locked (place_among more l)) (drop began calls) c h.2 fits))
-plain_state (Some (Updating l)) so_far began names layers act bitmaps calls groups long n begins ends stands h =
+    (open_later calls_in_task (calls_in_task + 1) calls_before_group groups (omega arith) h.0, h.1, subst P (sym (drop_pushed calls c calls_before_group (omega (arith, long, h.0.order)))) (all_pushed (may_be_locked (place_among more l)) (drop calls_before_group calls) c h.2 fits))
+plain_state (Some (Updating l)) calls_in_task calls_before_group names layers act bitmaps calls groups long n begins ends stands h =
     let more : List (List ℕ) = and_names names layers in
     let c : Call = spelled_call bitmaps act (map (place_among more) layers) in
     let fits = locked_call bitmaps more l layers act n (and_parts (is_on_one l layers act) _ stands).0 begins ends in
     let P : List Call → Type 0 = λ cs. IsUpdating (place_among more l) cs in
-    (open_later so_far (so_far + 1) began groups (omega arith) h.0, h.1, subst P (sym (drop_pushed calls c began (omega (arith, long, h.0.order)))) (updating_more (place_among more l) (drop began calls) c h.2 fits))
-plain_state (Some Held) so_far began names layers act bitmaps calls groups long n begins ends stands h =
+    (open_later calls_in_task (calls_in_task + 1) calls_before_group groups (omega arith) h.0, h.1, subst P (sym (drop_pushed calls c calls_before_group (omega (arith, long, h.0.order)))) (updating_more (place_among more l) (drop calls_before_group calls) c h.2 fits))
+plain_state (Some Held) calls_in_task calls_before_group names layers act bitmaps calls groups long n begins ends stands h =
     let slots : List ℕ = map (place_among (and_names names layers)) layers in
     let c : Call = spelled_call bitmaps act slots in
     let P : List Call → Type 0 = λ cs. are_held cs ≡ true in
-    (open_later so_far (so_far + 1) began groups (omega arith) h.0, subst P (sym (drop_pushed calls c began (omega (arith, long, h.0.order)))) (all_pushed (λ c. is_all (slots_of c)) (drop began calls) c h.1 (touches_all bitmaps act slots stands)))
+    (open_later calls_in_task (calls_in_task + 1) calls_before_group groups (omega arith) h.0, subst P (sym (drop_pushed calls c calls_before_group (omega (arith, long, h.0.order)))) (all_pushed (λ c. is_all (slots_of c)) (drop calls_before_group calls) c h.1 (touches_all bitmaps act slots stands)))
 
 -- one call more fits
 task_longer : (z : Sizes) (calls : List Call) (groups : List Group) (c : Call) → length calls + 1 ≤ (limits_of z.version).calls → call_fits z c ≡ true → IsTaskFit z calls groups → IsTaskFit z (calls ++ c ∷ []) groups
@@ -241,7 +241,7 @@ task_grouped z calls groups g before fits h =
     record { few = h.few; fit = h.fit; grouped = groups_pushed calls groups g h.grouped before fits }
 
 -- what a line that is no beginning and no end leaves of groups
-pub plain_groups : (above : List Statement) (layers : List (List ℕ)) (act : Act) → is_beginning act ≡ false → is_ending act ≡ false → ((told (CallLine layers act ∷ above)).groups ≡ (told above).groups) × (left_open_by layers act (told above).group ≡ (told above).group) × ((told (CallLine layers act ∷ above)).began ≡ (told above).began)
+pub plain_groups : (above : List Statement) (layers : List (List ℕ)) (act : Act) → is_beginning act ≡ false → is_ending act ≡ false → ((told (CallLine layers act ∷ above)).groups ≡ (told above).groups) × (left_open_by layers act (told above).group ≡ (told above).group) × ((told (CallLine layers act ∷ above)).calls_before_group ≡ (told above).calls_before_group)
 plain_groups above [] (BareAct RefreshVerb) b e = absurd (true≢false b)
 plain_groups above (l ∷ []) (BareAct RefreshVerb) b e = absurd (true≢false b)
 plain_groups above (l ∷ m ∷ ms) (BareAct RefreshVerb) b e = absurd (true≢false b)
@@ -268,15 +268,15 @@ module _ (z : Sizes) (s : Setting) (above : List Statement) (layers : List (List
   the_call = call_below (told above) layers act
 
   -- the nearest task's calls with it
-  call_fits_now : (calls : List Call) (groups : List Group) → length calls ≡ (told above).so_far → IsTaskFit z calls groups → IsTaskFit z (calls ++ the_call ∷ []) groups
+  call_fits_now : (calls : List Call) (groups : List Group) → length calls ≡ (told above).calls_in_task → IsTaskFit z calls groups → IsTaskFit z (calls ++ the_call ∷ []) groups
   call_fits_now calls groups long h =
       let sound = call_sound z s above layers act good version hooks slots bitmaps in
-      let P : ℕ → Type 0 = λ v. (told above).so_far + 1 ≤ (limits_of v).calls in
+      let P : ℕ → Type 0 = λ v. (told above).calls_in_task + 1 ≤ (limits_of v).calls in
       let few : P z.version = subst P (sym version) (counted s (CallLine layers act ∷ above) good).calls in
       task_longer z calls groups the_call (omega (arith, few, long)) sound h
 
   -- the tasks with it
-  with_call : (b : HaveBegun z (view_of above)) (groups : List Group) → (told (CallLine layers act ∷ above)).groups ≡ b.done_groups ++ groups ∷ [] → IsTaskFit z (b.calls ++ the_call ∷ []) groups → OpenState (told (CallLine layers act ∷ above)).group ((told above).so_far + 1) (told (CallLine layers act ∷ above)).began (and_names (told above).names layers) (b.calls ++ the_call ∷ []) groups → HaveBegun z (view_of (CallLine layers act ∷ above))
+  with_call : (b : HaveBegun z (view_of above)) (groups : List Group) → (told (CallLine layers act ∷ above)).groups ≡ b.done_groups ++ groups ∷ [] → IsTaskFit z (b.calls ++ the_call ∷ []) groups → OpenState (told (CallLine layers act ∷ above)).group ((told above).calls_in_task + 1) (told (CallLine layers act ∷ above)).calls_before_group (and_names (told above).names layers) (b.calls ++ the_call ∷ []) groups → HaveBegun z (view_of (CallLine layers act ∷ above))
   with_call b groups are fits state =
       record {
         done = b.done;
@@ -297,10 +297,10 @@ module _ (z : Sizes) (s : Setting) (above : List Statement) (layers : List (List
       let e = plain_groups above layers act begins ends in
       let more : List (List ℕ) = and_names (told above).names layers in
       let calls : List Call = b.calls ++ the_call ∷ [] in
-      let later = names_later (told above).group (told above).so_far (told above).began (told above).names layers b.calls b.groups b.now.state in
-      let plain = plain_state (told above).group (told above).so_far (told above).began (told above).names layers act (told above).bitmap_names b.calls b.groups b.now.long h.2.0 begins ends t.group later in
-      let P : Option OpenGroup → Type 0 = λ o. OpenState o ((told above).so_far + 1) (told (CallLine layers act ∷ above)).began more calls b.groups in
-      let Q : ℕ → Type 0 = λ k. OpenState (told above).group ((told above).so_far + 1) k more calls b.groups in
+      let later = names_later (told above).group (told above).calls_in_task (told above).calls_before_group (told above).names layers b.calls b.groups b.now.state in
+      let plain = plain_state (told above).group (told above).calls_in_task (told above).calls_before_group (told above).names layers act (told above).bitmap_names b.calls b.groups b.now.long h.2.0 begins ends t.group later in
+      let P : Option OpenGroup → Type 0 = λ o. OpenState o ((told above).calls_in_task + 1) (told (CallLine layers act ∷ above)).calls_before_group more calls b.groups in
+      let Q : ℕ → Type 0 = λ k. OpenState (told above).group ((told above).calls_in_task + 1) k more calls b.groups in
       with_call b b.groups (e.0 ∙ b.groups_are) (call_fits_now b.calls b.groups b.now.long b.now.fits) (subst P (sym e.1) (subst Q (sym e.2) plain))
 
 -- an update begins where no group is open
@@ -329,13 +329,13 @@ update_whole slot (b ∷ cs) c h k = update_stands slot b cs c h.0 h.1 k
 refresh_call : (z : Sizes) (s : Setting) (above : List Statement) (l : List ℕ) → AreGoodLines s (CallLine (l ∷ []) (BareAct RefreshVerb) ∷ above) → z.version ≡ (told above).version → z.hooks ≡ s.hooks → length (told (CallLine (l ∷ []) (BareAct RefreshVerb) ∷ above)).names ≤ z.slots → length (told above).bitmap_names ≤ z.bitmaps → HaveBegun z (view_of above) → HaveBegun z (view_of (CallLine (l ∷ []) (BareAct RefreshVerb) ∷ above))
 refresh_call z s above l g version hooks slots bitmaps b =
     let t = tests s above (CallLine (l ∷ []) (BareAct RefreshVerb)) g in
-    let so_far : ℕ = (told above).so_far in
+    let calls_in_task : ℕ = (told above).calls_in_task in
     let more : List (List ℕ) = and_names (told above).names (l ∷ []) in
     let c : Call = call_below (told above) (l ∷ []) (BareAct RefreshVerb) in
-    let P : Option OpenGroup → Type 0 = λ o. OpenState o so_far (told above).began (told above).names b.calls b.groups in
-    let before : EndBefore b.groups so_far = subst P (opens_none (told above).group l t.group) b.now.state in
+    let P : Option OpenGroup → Type 0 = λ o. OpenState o calls_in_task (told above).calls_before_group (told above).names b.calls b.groups in
+    let before : EndBefore b.groups calls_in_task = subst P (opens_none (told above).group l t.group) b.now.state in
     let Q : List Call → Type 0 = λ cs. IsUpdating (place_among more l) cs in
-    let alone : drop so_far (b.calls ++ c ∷ []) ≡ c ∷ [] = drop_at b.calls (c ∷ []) so_far b.now.long in
+    let alone : drop calls_in_task (b.calls ++ c ∷ []) ≡ c ∷ [] = drop_at b.calls (c ∷ []) calls_in_task b.now.long in
     let begun : IsUpdating (place_among more l) (c ∷ []) = (and_from _ _ (eq-eqb (place_among more l) _ refl) refl, refl) in
     with_call z s above (l ∷ []) (BareAct RefreshVerb) g version hooks slots bitmaps b b.groups b.groups_are (call_fits_now z s above (l ∷ []) (BareAct RefreshVerb) g version hooks slots bitmaps b.calls b.groups b.now.long b.now.fits)
     (record { before = before; order = omega arith }, (all_named (told above).names (l ∷ [])).0, subst Q (sym alone) begun)
@@ -344,22 +344,22 @@ refresh_call z s above l g version hooks slots bitmaps b =
 endrefresh_call : (z : Sizes) (s : Setting) (above : List Statement) (l : List ℕ) (full : Bool) → AreGoodLines s (CallLine (l ∷ []) (EndRefreshAct full) ∷ above) → z.version ≡ (told above).version → z.hooks ≡ s.hooks → length (told (CallLine (l ∷ []) (EndRefreshAct full) ∷ above)).names ≤ z.slots → length (told above).bitmap_names ≤ z.bitmaps → HaveBegun z (view_of above) → HaveBegun z (view_of (CallLine (l ∷ []) (EndRefreshAct full) ∷ above))
 endrefresh_call z s above l full g version hooks slots bitmaps b =
     let t = tests s above (CallLine (l ∷ []) (EndRefreshAct full)) g in
-    let so_far : ℕ = (told above).so_far in
-    let began : ℕ = (told above).began in
+    let calls_in_task : ℕ = (told above).calls_in_task in
+    let calls_before_group : ℕ = (told above).calls_before_group in
     let slot : ℕ = place_among (told above).names l in
     let c : Call = call_below (told above) (l ∷ []) (EndRefreshAct full) in
     let calls : List Call = b.calls ++ c ∷ [] in
-    let group : Group = group_from (told above) (Slot slot) (so_far + 1) in
-    let P : Option OpenGroup → Type 0 = λ o. OpenState o so_far began (told above).names b.calls b.groups in
-    let state : OpenState (Some (Updating l)) so_far began (told above).names b.calls b.groups = subst P (ends_same (told above).group l full t.group) b.now.state in
-    let long : length calls ≡ so_far + 1 = length-append b.calls (c ∷ []) ∙ ap (λ k. k + 1) b.now.long in
+    let group : Group = group_from (told above) (Slot slot) (calls_in_task + 1) in
+    let P : Option OpenGroup → Type 0 = λ o. OpenState o calls_in_task calls_before_group (told above).names b.calls b.groups in
+    let state : OpenState (Some (Updating l)) calls_in_task calls_before_group (told above).names b.calls b.groups = subst P (ends_same (told above).group l full t.group) b.now.state in
+    let long : length calls ≡ calls_in_task + 1 = length-append b.calls (c ∷ []) ∙ ap (λ k. k + 1) b.now.long in
     let same : place_among (and_names (told above).names (l ∷ [])) l ≡ slot = place_kept (bytes_eq l) (told above).names (l ∷ []) state.1 in
     let ends : (is_one slot (slots_of c) && ends_update c) ≡ true = and_from _ _ (eq-eqb _ slot same) refl in
-    let whole = update_whole slot (drop began b.calls) c state.2 ends in
-    let stands : hold_allows (Slot slot) (drop began calls) ≡ true = ap (hold_allows (Slot slot)) (drop_pushed b.calls c began (omega (arith, b.now.long, state.0.order))) ∙ whole in
-    let fits : group_fits calls group ≡ true = to_the_end calls began ((so_far + 1) - 1) (Slot slot) (omega (arith, state.0.order)) (omega (arith, long)) stands in
+    let whole = update_whole slot (drop calls_before_group b.calls) c state.2 ends in
+    let stands : hold_allows (Slot slot) (drop calls_before_group calls) ≡ true = ap (hold_allows (Slot slot)) (drop_pushed b.calls c calls_before_group (omega (arith, b.now.long, state.0.order))) ∙ whole in
+    let fits : group_fits calls group ≡ true = to_the_end calls calls_before_group ((calls_in_task + 1) - 1) (Slot slot) (omega (arith, state.0.order)) (omega (arith, long)) stands in
     with_call z s above (l ∷ []) (EndRefreshAct full) g version hooks slots bitmaps b (b.groups ++ group ∷ []) (ap (onto_last group) b.groups_are ∙ onto_pushed group b.done_groups b.groups) (task_grouped z calls b.groups group state.0.before fits (call_fits_now z s above (l ∷ []) (EndRefreshAct full) g version hooks slots bitmaps b.calls b.groups b.now.long b.now.fits))
-    (end_pushed b.groups group (so_far + 1) (omega arith))
+    (end_pushed b.groups group (calls_in_task + 1) (omega arith))
 
 -- any call
 any_call : (z : Sizes) (s : Setting) (above : List Statement) (layers : List (List ℕ)) (act : Act) → AreGoodLines s (CallLine layers act ∷ above) → z.version ≡ (told above).version → z.hooks ≡ s.hooks → length (told (CallLine layers act ∷ above)).names ≤ z.slots → length (told above).bitmap_names ≤ z.bitmaps → HaveBegun z (view_of above) → HaveBegun z (view_of (CallLine layers act ∷ above))
@@ -378,8 +378,8 @@ any_call z s above layers (TextAct verb text) g version hooks slots bitmaps b =
 any_call z s above layers act g version hooks slots bitmaps b = plain_call z s above layers act g version hooks slots bitmaps refl refl b
 
 -- the tasks with no further call, and these groups in the nearest one
-grouped : (z : Sizes) (v w : View) (b : HaveBegun z v) (groups : List Group) → w.calls ≡ v.calls → w.so_far ≡ v.so_far → w.groups ≡ b.done_groups ++ groups ∷ [] → IsTaskFit z b.calls groups → OpenState w.group w.so_far w.began w.names b.calls groups → HaveBegun z w
-grouped z v w b groups all so_far are fits state =
+grouped : (z : Sizes) (v w : View) (b : HaveBegun z v) (groups : List Group) → w.calls ≡ v.calls → w.calls_in_task ≡ v.calls_in_task → w.groups ≡ b.done_groups ++ groups ∷ [] → IsTaskFit z b.calls groups → OpenState w.group w.calls_in_task w.calls_before_group w.names b.calls groups → HaveBegun z w
+grouped z v w b groups all calls_in_task are fits state =
     record {
       done = b.done;
       done_groups = b.done_groups;
@@ -388,21 +388,21 @@ grouped z v w b groups all so_far are fits state =
       all_are = all ∙ b.all_are;
       groups_are = are;
       done_fit = b.done_fit;
-      now = record { long = b.now.long ∙ sym so_far; fits = fits; state = state };
+      now = record { long = b.now.long ∙ sym calls_in_task; fits = fits; state = state };
     }
 
 -- no call stands in a group that has just begun
-none_behind : (z : Sizes) (v : View) (b : HaveBegun z v) → drop v.so_far b.calls ≡ []
-none_behind z v b = drop_all v.so_far b.calls (omega (arith, b.now.long))
+none_behind : (z : Sizes) (v : View) (b : HaveBegun z v) → drop v.calls_in_task b.calls ≡ []
+none_behind z v b = drop_all v.calls_in_task b.calls (omega (arith, b.now.long))
 
 -- a group begins where none is open
 lock_begins : (z : Sizes) (s : Setting) (above : List Statement) (name : List ℕ) → AreGoodLines s (LockLine name ∷ above) → HaveBegun z (view_of above) → HaveBegun z (view_of (LockLine name ∷ above))
 lock_begins z s above name g b =
     let t = tests s above (LockLine name) g in
-    let so_far : ℕ = (told above).so_far in
+    let calls_in_task : ℕ = (told above).calls_in_task in
     let more : List (List ℕ) = and_names (told above).names (name ∷ []) in
-    let P : Option OpenGroup → Type 0 = λ o. OpenState o so_far (told above).began (told above).names b.calls b.groups in
-    let before : EndBefore b.groups so_far = subst P (none_open (told above).group t.group) b.now.state in
+    let P : Option OpenGroup → Type 0 = λ o. OpenState o calls_in_task (told above).calls_before_group (told above).names b.calls b.groups in
+    let before : EndBefore b.groups calls_in_task = subst P (none_open (told above).group t.group) b.now.state in
     let Q : List Call → Type 0 = λ cs. list_all (may_be_locked (place_among more name)) cs ≡ true in
     grouped z (view_of above) (view_of (LockLine name ∷ above)) b b.groups refl refl b.groups_are b.now.fits
     (record { before = before; order = omega arith }, (all_named (told above).names (name ∷ [])).0, subst Q (sym (none_behind z (view_of above) b)) refl)
@@ -410,9 +410,9 @@ lock_begins z s above name g b =
 hold_begins : (z : Sizes) (s : Setting) (above : List Statement) → AreGoodLines s (HoldLine ∷ above) → HaveBegun z (view_of above) → HaveBegun z (view_of (HoldLine ∷ above))
 hold_begins z s above g b =
     let t = tests s above HoldLine g in
-    let so_far : ℕ = (told above).so_far in
-    let P : Option OpenGroup → Type 0 = λ o. OpenState o so_far (told above).began (told above).names b.calls b.groups in
-    let before : EndBefore b.groups so_far = subst P (none_open (told above).group t.group) b.now.state in
+    let calls_in_task : ℕ = (told above).calls_in_task in
+    let P : Option OpenGroup → Type 0 = λ o. OpenState o calls_in_task (told above).calls_before_group (told above).names b.calls b.groups in
+    let before : EndBefore b.groups calls_in_task = subst P (none_open (told above).group t.group) b.now.state in
     let Q : List Call → Type 0 = λ cs. are_held cs ≡ true in
     grouped z (view_of above) (view_of (HoldLine ∷ above)) b b.groups refl refl b.groups_are b.now.fits (record { before = before; order = omega arith }, subst Q (sym (none_behind z (view_of above) b)) refl)
 
@@ -430,33 +430,33 @@ releases_held (Some (Updating m)) h = absurd (false≢true h)
 releases_held (Some Held) h = refl
 
 -- the group that ends with the last call
-ended_group : (z : Sizes) (above : List Statement) (b : HaveBegun z (view_of above)) (hold : Hold) → (told above).began < (told above).so_far → EndBefore b.groups (told above).began → hold_allows hold (drop (told above).began b.calls) ≡ true → IsTaskFit z b.calls (b.groups ++ group_from (told above) hold (told above).so_far ∷ [])
+ended_group : (z : Sizes) (above : List Statement) (b : HaveBegun z (view_of above)) (hold : Hold) → (told above).calls_before_group < (told above).calls_in_task → EndBefore b.groups (told above).calls_before_group → hold_allows hold (drop (told above).calls_before_group b.calls) ≡ true → IsTaskFit z b.calls (b.groups ++ group_from (told above) hold (told above).calls_in_task ∷ [])
 ended_group z above b hold some before stands =
-    let fits = to_the_end b.calls (told above).began ((told above).so_far - 1) hold (omega arith) (omega (arith, b.now.long, some)) stands in
-    task_grouped z b.calls b.groups (group_from (told above) hold (told above).so_far) before fits b.now.fits
+    let fits = to_the_end b.calls (told above).calls_before_group ((told above).calls_in_task - 1) hold (omega arith) (omega (arith, b.now.long, some)) stands in
+    task_grouped z b.calls b.groups (group_from (told above) hold (told above).calls_in_task) before fits b.now.fits
 
 unlock_ends : (z : Sizes) (s : Setting) (above : List Statement) (name : List ℕ) → AreGoodLines s (UnlockLine name ∷ above) → HaveBegun z (view_of above) → HaveBegun z (view_of (UnlockLine name ∷ above))
 unlock_ends z s above name g b =
     let t = and_parts (is_lock_on name (told above).group) _ (tests s above (UnlockLine name) g).group in
-    let some : (told above).began < (told above).so_far = ltb-true _ _ t.1 in
+    let some : (told above).calls_before_group < (told above).calls_in_task = ltb-true _ _ t.1 in
     let slot : ℕ = place_among (told above).names name in
-    let group : Group = group_from (told above) (Slot slot) (told above).so_far in
-    let P : Option OpenGroup → Type 0 = λ o. OpenState o (told above).so_far (told above).began (told above).names b.calls b.groups in
-    let state : OpenState (Some (Locked name)) (told above).so_far (told above).began (told above).names b.calls b.groups = subst P (unlocks_same (told above).group name t.0) b.now.state in
-    let long : length (drop (told above).began b.calls) ≡ length b.calls - (told above).began = length-drop (told above).began b.calls in
-    let stands = locked_stands slot (drop (told above).began b.calls) (omega (arith, long, some, b.now.long)) state.2 in
+    let group : Group = group_from (told above) (Slot slot) (told above).calls_in_task in
+    let P : Option OpenGroup → Type 0 = λ o. OpenState o (told above).calls_in_task (told above).calls_before_group (told above).names b.calls b.groups in
+    let state : OpenState (Some (Locked name)) (told above).calls_in_task (told above).calls_before_group (told above).names b.calls b.groups = subst P (unlocks_same (told above).group name t.0) b.now.state in
+    let long : length (drop (told above).calls_before_group b.calls) ≡ length b.calls - (told above).calls_before_group = length-drop (told above).calls_before_group b.calls in
+    let stands = locked_stands slot (drop (told above).calls_before_group b.calls) (omega (arith, long, some, b.now.long)) state.2 in
     grouped z (view_of above) (view_of (UnlockLine name ∷ above)) b (b.groups ++ group ∷ []) refl refl (ap (onto_last group) b.groups_are ∙ onto_pushed group b.done_groups b.groups) (ended_group z above b (Slot slot) some state.0.before stands)
-    (end_pushed b.groups group (told above).so_far (omega (arith, some)))
+    (end_pushed b.groups group (told above).calls_in_task (omega (arith, some)))
 
 release_ends : (z : Sizes) (s : Setting) (above : List Statement) → AreGoodLines s (ReleaseLine ∷ above) → HaveBegun z (view_of above) → HaveBegun z (view_of (ReleaseLine ∷ above))
 release_ends z s above g b =
     let t = and_parts (is_hold (told above).group) _ (tests s above ReleaseLine g).group in
-    let some : (told above).began < (told above).so_far = ltb-true _ _ t.1 in
-    let group : Group = group_from (told above) AllLayers (told above).so_far in
-    let P : Option OpenGroup → Type 0 = λ o. OpenState o (told above).so_far (told above).began (told above).names b.calls b.groups in
-    let state : OpenState (Some Held) (told above).so_far (told above).began (told above).names b.calls b.groups = subst P (releases_held (told above).group t.0) b.now.state in
+    let some : (told above).calls_before_group < (told above).calls_in_task = ltb-true _ _ t.1 in
+    let group : Group = group_from (told above) AllLayers (told above).calls_in_task in
+    let P : Option OpenGroup → Type 0 = λ o. OpenState o (told above).calls_in_task (told above).calls_before_group (told above).names b.calls b.groups in
+    let state : OpenState (Some Held) (told above).calls_in_task (told above).calls_before_group (told above).names b.calls b.groups = subst P (releases_held (told above).group t.0) b.now.state in
     grouped z (view_of above) (view_of (ReleaseLine ∷ above)) b (b.groups ++ group ∷ []) refl refl (ap (onto_last group) b.groups_are ∙ onto_pushed group b.done_groups b.groups) (ended_group z above b AllLayers some state.0.before state.1)
-    (end_pushed b.groups group (told above).so_far (omega (arith, some)))
+    (end_pushed b.groups group (told above).calls_in_task (omega (arith, some)))
 
 -- before the screen line there are no tasks, whatever the sizes
 before_screen : (y z : Sizes) (c : Section) (v : View) → c ≡ ScreenIsDue → AreTasks y c v → AreTasks z ScreenIsDue v

@@ -16,8 +16,9 @@ use Rattle.lw_grammar.specs.Statements.{TaskLine, OrderLine, NumbersLine, Report
 use Rattle.lw_grammar.specs.Told.{Section, told}
 use Rattle.lw_grammar.specs.Script.{Setting, are_calls_due, are_numbers_due, is_known_in, belongs_in, statement_tested}
 
--- A line with this statement, which begins with a verb, belongs in this version and section of this input, as its verb does. One
--- for which no line stands alone belongs where calls do.
+-- A line with this statement belongs in this version and section of this input, as its verb does. Calls, groups, the end of a
+-- task and the statements for which no line stands alone belong where calls are due. A row and numbers of an order have no verb,
+-- and belong nowhere by this.
 abbrev pub belongs_at : Form → ℕ → Section → Statement → Bool
 belongs_at form version s LayersLine = belongs_in form version s (Part LayersVerb)
 belongs_at form version s (ScreenLine w h d) = belongs_in form version s (Part ScreenVerb)
@@ -48,8 +49,9 @@ IsNewLayerOf SuperBitmap a = a.hook ≡ None
 
 -- what the words of a call are good for, besides the ranges of its numbers
 abbrev pub IsActMade : Act → Type 0
-IsActMade (CreateAct a) = IsNewLayerOf a.kind a
-IsActMade (OpenAct a framed nocare classes title) = IsNewLayerOf a.kind a × ((framed && is_super a.kind) ≡ false) × (classes < 32)
+IsActMade (CreateAct rect a) = IsNewLayerOf a.kind a
+IsActMade (OpenAct at a framed nocare classes title) =
+    IsNewLayerOf a.kind a × ((framed && is_super a.kind) ≡ false) × (classes < 32)
 IsActMade (PutAct bm b) = is_minterm b.minterm ≡ true
 IsActMade (BlitAct b) = is_minterm b.minterm ≡ true
 IsActMade act = Unit {0}

@@ -6,3 +6,4 @@ pub mod Statements
 pub mod Told
 pub mod Script
 pub mod GoodLines
+pub mod Laws

@@ -1,9 +1,8 @@
--- The grammar of scripts (docs/FORMATS.md has it with an example): the rule of a line, by what the
--- lines above it tell, and the outcome of lines read from the first to the last, which is an input, or the first bad line with
--- its first reason.
-use Rattle.std.specs.Prelude.{◌≡◌, ℕ, ◌+◌, ◌-◌, ◌*◌, ◌≤◌, ◌==◌, Bool, true, false, not, ◌&&◌, ◌||◌, nat_le, nat_lt, min}
-use Rattle.std.specs.Prelude.{if◌then◌else◌, List, [], ◌∷◌, length, map, ℤ, unsigned_abs, Option, Some, None, option_map}
-use Rattle.std.specs.Prelude.{is_none, Result, Ok, Err, ok_or, bytes_eq, ◌⊎◌, All}
+-- The grammar of scripts (docs/FORMATS.md has it with an example): the rule of a line, by what the lines above it tell, and the
+-- outcome of lines read from the first to the last, which is an input, or the first bad line with its first reason.
+use Rattle.std.specs.Prelude.{◌≡◌, ℕ, ◌+◌, ◌-◌, ◌*◌, ◌==◌, Bool, true, false, not, ◌&&◌, ◌||◌, nat_le, nat_lt, min}
+use Rattle.std.specs.Prelude.{if◌then◌else◌, List, [], ◌∷◌, ◌++◌, length, map, ℤ, unsigned_abs, Option, Some, None, option_map}
+use Rattle.std.specs.Prelude.{is_none, Result, Ok, Err, ok_or, bytes_eq}
 use Rattle.std.specs.List.{list_any, list_all, range_with_len}
 use Rattle.lw_planes.specs.Row.{row_bit}
 use Rattle.lw_area.specs.declared.point.Point.{Point}
@@ -25,7 +24,7 @@ use Rattle.lw_grammar.specs.declared.verb.BareVerb.TheVariants.{Activate as Acti
 use Rattle.lw_grammar.specs.declared.verb.PairVerb.TheVariants.{Move as MoveVerb, Size as SizeVerb}
 use Rattle.lw_calls.specs.declared.limits.Limits.{Limits}
 use Rattle.lw_calls.specs.Limits.{limits_of, may_replace_hooks, task_limit, bitmap_limit}
-use Rattle.lw_calls.specs.Plan.{Plan, IsPlan}
+use Rattle.lw_calls.specs.Plan.{Plan}
 use Rattle.lw_grammar.specs.Lines.{lines}
 use Rattle.lw_grammar.specs.Demands.{◌>>=◌, demand}
 use Rattle.lw_grammar.specs.Tokens.{tokens, token_of}
@@ -61,7 +60,7 @@ is_skipped (b ∷ bs) = b == 35
 abbrev pub is_printable : ℕ → Bool
 is_printable b = nat_le 32 b && nat_le b 126
 
--- the section is this one
+-- this is due in the section
 abbrev pub is_screen_due : Section → Bool
 is_screen_due ScreenIsDue = true
 is_screen_due _ = false
@@ -142,7 +141,7 @@ lacks_pattern names (Some name) = not (list_any (bytes_eq name) names)
 
 -- the line gives a bitmap, a pattern, a task or a code that a line above gave
 abbrev pub gives_again : Told → Statement → Bool
-gives_again t (GlyphLine code rows) = t.given code
+gives_again t (GlyphLine code rows) = t.glyph_codes code
 gives_again t (BitmapLine name w h d) = list_any (bytes_eq name) t.bitmap_names
 gives_again t (PatternLine name words) = list_any (bytes_eq name) t.pattern_names
 gives_again t (TaskLine name) = list_any (bytes_eq name) t.tasks
@@ -159,41 +158,41 @@ abbrev pub is_paired : List NamedPair → List ℕ → Bool
 is_paired pairs name = is_outer pairs name || is_inner pairs name
 
 -- the call of the act makes, closes, moves or sizes a layer, or puts it elsewhere in the list
-abbrev pub is_arranging : Act → Bool
-is_arranging (BareAct CloseVerb) = true
-is_arranging (BareAct FrontVerb) = true
-is_arranging (BareAct BehindVerb) = true
-is_arranging (PairAct MoveVerb x y) = true
-is_arranging (PairAct SizeVerb x y) = true
-is_arranging (CreateAct layer) = true
-is_arranging (OpenAct layer framed nocare classes title) = true
-is_arranging InFrontAct = true
-is_arranging (BoxAct r) = true
-is_arranging act = false
+abbrev pub is_placing : Act → Bool
+is_placing (BareAct CloseVerb) = true
+is_placing (BareAct FrontVerb) = true
+is_placing (BareAct BehindVerb) = true
+is_placing (PairAct MoveVerb x y) = true
+is_placing (PairAct SizeVerb x y) = true
+is_placing (CreateAct rect layer) = true
+is_placing (OpenAct at layer framed nocare classes title) = true
+is_placing InFrontAct = true
+is_placing (BoxAct at) = true
+is_placing act = false
 
 abbrev pub is_activating : Act → Bool
 is_activating (BareAct ActivateVerb) = true
 is_activating act = false
 
--- The statement does by itself what could part a window of two layers: it arranges one of the two, or a layer in front of one of
+-- The statement does by itself what could part a window of two layers: it places one of the two, or a layer in front of one of
 -- them, or makes the inner one active.
 abbrev pub parts_pair : List NamedPair → Statement → Bool
 parts_pair pairs (CallLine layers act) =
-    (is_arranging act && list_any (is_paired pairs) layers) || (is_activating act && list_any (is_inner pairs) layers)
+    (is_placing act && list_any (is_paired pairs) layers) || (is_activating act && list_any (is_inner pairs) layers)
 parts_pair pairs statement = false
 
 -- the name stands on a line above
 abbrev pub stands_above : Told → List ℕ → Bool
-stands_above t name = list_any (bytes_eq name) t.names || list_any (bytes_eq name) t.seen
+stands_above t name = list_any (bytes_eq name) t.names || list_any (bytes_eq name) t.names_without_slot
 
 -- the line does something with a window of two layers that no line above opened
 abbrev pub lacks_pair : List NamedPair → List ℕ → GzzAct → Bool
-lacks_pair pairs g (OpenGzz inner kind place r classes title) = false
+lacks_pair pairs g (OpenGzz inner kind place at classes title) = false
 lacks_pair pairs g act = not (is_outer pairs g)
 
 -- a name of an opened window stands above, or both are one
 abbrev pub names_again : Told → List ℕ → GzzAct → Bool
-names_again t g (OpenGzz inner kind place r classes title) =
+names_again t g (OpenGzz inner kind place at classes title) =
     (stands_above t g || stands_above t inner) || bytes_eq g inner
 names_again t g act = false
 
@@ -207,16 +206,16 @@ abbrev pub is_hooking : Act → Bool
 is_hooking (NumberAct HookVerb z) = true
 is_hooking act = false
 
--- the call of the act is on all layers: it arranges, makes a layer active, or gives one another hook
+-- the call of the act is on all layers: it places a layer, makes one active, or gives one another hook
 abbrev pub is_on_all : Act → Bool
-is_on_all act = is_arranging act || (is_activating act || is_hooking act)
+is_on_all act = is_placing act || (is_activating act || is_hooking act)
 
--- it begins an update
+-- the call of the act begins an update
 abbrev pub is_beginning : Act → Bool
 is_beginning (BareAct RefreshVerb) = true
 is_beginning act = false
 
--- it ends an update
+-- the call of the act ends an update
 abbrev pub is_ending : Act → Bool
 is_ending (EndRefreshAct full) = true
 is_ending act = false
@@ -249,7 +248,7 @@ is_hold _ = false
 
 -- the group that lines left open has a call
 abbrev pub group_has_calls : Told → Bool
-group_has_calls t = nat_lt t.began t.so_far
+group_has_calls t = nat_lt t.calls_before_group t.calls_in_task
 
 -- The line may stand where this group is open, or none, and has calls, or not.
 abbrev pub fits_group : Option OpenGroup → Bool → Statement → Bool
@@ -283,7 +282,7 @@ are_few limits t =
     ((nat_le (length t.tasks) task_limit
     && (nat_le (length t.bitmap_names) bitmap_limit && nat_le (length t.pattern_names) pattern_limit))
     && nat_le (length t.names) limits.names)
-    && (nat_le t.supers super_limit && nat_le t.so_far limits.calls)
+    && (nat_le t.supers super_limit && nat_le t.calls_in_task limits.calls)
 
 -- there is a hook's number, and it isn't below the number of hooks
 abbrev pub is_no_hook : ℕ → Option ℤ → Bool
@@ -292,8 +291,8 @@ is_no_hook hooks (Some n) = not (nat_lt (unsigned_abs n) hooks)
 
 -- there is a hook's number, and it is among the used ones
 abbrev pub is_used : (ℕ → Bool) → Option ℤ → Bool
-is_used used None = false
-is_used used (Some n) = used (unsigned_abs n)
+is_used hooks_named None = false
+is_used hooks_named (Some n) = hooks_named (unsigned_abs n)
 
 -- a bit of a row after this width is 1
 abbrev pub has_padding : ℕ → Statement → Bool
@@ -340,15 +339,15 @@ tested_with s t parts statement = do
   _ ← demand (fits_group t.group (group_has_calls t) statement) Group
   _ ← demand (are_few (limits_of t.version) (told_with statement t)) TooMany
   _ ← demand (not (is_no_hook s.hooks (hook_on statement))) NoHook
-  _ ← demand (not (is_used t.used (hook_on statement))) HookUsed
+  _ ← demand (not (is_used t.hooks_named (hook_on statement))) HookUsed
   demand (not (has_padding t.row_width statement)) Padding
 
--- The same where it isn't asked whether it would part such a window.
+-- The first reason for which a line with this statement is bad, where it isn't asked whether it would part such a window.
 abbrev pub statement_tested : Setting → Told → Statement → Result (Unit {0}) Reason
 statement_tested s t statement = tested_with s t false statement
 
--- The same of a line with an area on this layer, with this pattern and these points. Of what it stands for no reason is asked,
--- but that with all of it there are few of everything.
+-- The first reason for which a line is bad with an area on this layer, with this pattern and these points. Of what it stands for
+-- no reason is asked, but that with all of it there are few of everything.
 abbrev pub area_tested : Told → List ℕ → Option (List ℕ) → List Point → Result (Unit {0}) Reason
 area_tested t layer pattern points = do
   _ ← demand (list_all is_in_range points) Range
@@ -356,8 +355,8 @@ area_tested t layer pattern points = do
   _ ← demand (allows_area t.group layer) Group
   demand (are_few (limits_of t.version) (told_all (stands_for t (AreaLine layer pattern points)) t)) TooMany
 
--- The same of a line that does this with the window of two layers of which this is the outer one. It stands in no group. Of the
--- statements for which it stands no reason is asked, but that with all of them there are few of everything.
+-- The first reason for which a line is bad that does this with the window of two layers of which this is the outer one. It stands
+-- in no group. Of the statements for which it stands no reason is asked, but that with all of them there are few of everything.
 abbrev pub gzz_tested : Told → List ℕ → GzzAct → Result (Unit {0}) Reason
 gzz_tested t g act = do
   _ ← demand (is_gzz_in_range t.width t.height act) Range
@@ -367,7 +366,7 @@ gzz_tested t g act = do
   _ ← demand (is_none t.group) Group
   demand (are_few (limits_of t.version) (told_all (stands_for t (GzzLine g act)) t)) TooMany
 
--- The same of what any line says.
+-- The first reason for which a line that says this is bad.
 abbrev pub line_tested : Setting → Told → Line → Result (Unit {0}) Reason
 line_tested s t (StatementLine f) = tested_with s t (parts_pair t.pairs f) f
 line_tested s t (AreaLine layer pattern points) = area_tested t layer pattern points
@@ -456,31 +455,26 @@ outcome_of s bytes = do
 abbrev pub SpellsInput : Setting → List ℕ → ScriptInput → Type 0
 SpellsInput s bytes input = outcome_of s bytes ≡ Ok input
 
+-- These lines are read below lines with these statements: none is bad, and none stands below a line `report`. All statements are
+-- then those.
+abbrev pub AreGoodBelow : Setting → List Statement → List (List ℕ) → List Statement → Type 0
+AreGoodBelow s above [] all = above ≡ all
+AreGoodBelow s above (line ∷ ls) all =
+    (is_nothing_due (told above).section ≡ false)
+    × (more : List Statement) × (statements_with s above line ≡ Ok more) × AreGoodBelow s more ls all
+
+-- The first of these lines is bad for this reason, below lines with these statements; or there is none, and something is missing.
+abbrev pub IsBadBelow : Setting → List Statement → List (List ℕ) → Reason → Type 0
+IsBadBelow s above [] reason = (may_end s.form (told above).section ≡ false) × (reason ≡ Missing)
+IsBadBelow s above (line ∷ ls) reason =
+    (is_nothing_due (told above).section ≡ false) × (is_skipped line ≡ false) × (line_read s (told above) line ≡ Err reason)
+
 -- Line number n is the first bad line, and this is its first reason; or the lines end above it, and something is missing.
-abbrev pub IsFirstBadIn : Setting → List (List ℕ) → ℕ → Reason → Type 0
-IsFirstBadIn s ls n reason = lines_read s at_the_top ls ≡ Err (n, reason)
-
--- Bytes either have a first bad line, with one number and one reason, or they spell an input, and one only.
-pub record IsDecidedIn (s : Setting) (bytes : List ℕ) : Type 0 where
-  pub either : ((n : ℕ) × (reason : Reason) × IsFirstBadIn s (lines bytes) n reason)
-      ⊎ ((input : ScriptInput) × SpellsInput s bytes input)
-  pub not_both : (n : ℕ) (reason : Reason) (input : ScriptInput)
-      → IsFirstBadIn s (lines bytes) n reason → SpellsInput s bytes input → ⊥
-  pub one_line : (m n : ℕ) (r q : Reason)
-      → IsFirstBadIn s (lines bytes) m r → IsFirstBadIn s (lines bytes) n q → (m ≡ n) × (r ≡ q)
-  pub one_input : (p q : ScriptInput) → SpellsInput s bytes p → SpellsInput s bytes q → p ≡ q
-
--- every input is decided
-abbrev pub InputsAreDecided : Type 0
-InputsAreDecided = (s : Setting) (bytes : List ℕ) → IsDecidedIn s bytes
-
--- An input that may be run: its plan is one, with the hooks that were handed in, and its order names numbers that tasks may have.
-pub record IsRunnableInput (s : Setting) (input : ScriptInput) : Type 0 where
-  pub plan : IsPlan input.plan
-  pub hooks : input.plan.sizes.hooks ≡ s.hooks
-  pub order : All (λ task. task ≤ 15) input.order
-
--- every input that bytes spell may be run
-abbrev pub SpelledInputsAreRunnable : Type 0
-SpelledInputsAreRunnable =
-    (s : Setting) (bytes : List ℕ) (input : ScriptInput) → SpellsInput s bytes input → IsRunnableInput s input
+pub record IsFirstBadIn (s : Setting) (ls : List (List ℕ)) (n : ℕ) (reason : Reason) : Type 0 where
+  pub above : List (List ℕ)
+  pub below : List (List ℕ)
+  pub statements : List Statement
+  pub lines_are : ls ≡ above ++ below
+  pub number : n ≡ length above + 1
+  pub read : AreGoodBelow s [] above statements
+  pub bad : IsBadBelow s statements below reason

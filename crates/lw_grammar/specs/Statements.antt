@@ -32,25 +32,24 @@ use Rattle.lw_grammar.specs.declared.verb.GzzVerb.TheVariants.{Open as OpenVerb,
 use Rattle.lw_grammar.specs.declared.verb.GzzVerb.TheVariants.{Behind as BehindVerb, InFront as InFrontVerb, Close as CloseVerb}
 use Rattle.lw_grammar.specs.declared.verb.Verb.{Verb}
 use Rattle.lw_grammar.specs.declared.verb.Verb.TheVariants.{Part, Bare, Number, Pair, Text, Rect, Region, ClearRegion, Create}
-use Rattle.lw_grammar.specs.declared.verb.Verb.TheVariants.{Open, InFront, Box, Which, Fill, ScrollRaster, Put, Blit}
+use Rattle.lw_grammar.specs.declared.verb.Verb.TheVariants.{Open, InFront, Box as BoxOf, Which, Fill, ScrollRaster, Put, Blit}
 use Rattle.lw_grammar.specs.declared.verb.Verb.TheVariants.{EndRefresh, Area as AreaVerb, AreaPattern as AreaPatternVerb, Gzz}
 use Rattle.lw_calls.specs.Limits.{limits_of, rect_fits, coordinates_fit, is_extent}
 use Rattle.lw_grammar.specs.Tokens.{Token, NameToken, NumberToken, TextToken, bytes_in}
 
--- Four numbers of a line in their order: X0 Y0 X1 Y1, the bounds of a rectangle; or X Y W H, a place, a width and a height.
-pub record Four : Type 0 where
-  pub first : ℤ
-  pub second : ℤ
-  pub third : ℤ
-  pub fourth : ℤ
+-- A box of a line: X Y W H, a place, a width and a height.
+pub record Box : Type 0 where
+  pub x : ℤ
+  pub y : ℤ
+  pub w : ℤ
+  pub h : ℤ
 
--- A layer as a line asks for it: its kind and place, its four numbers (the bounds of a creation, or the place and size of an
--- opening), whether it is a backdrop layer, its hook, and the size of a bitmap of its own, or 0 and 0. All numbers are the
--- line's own, in their ranges or not; the call has a `Make` of them, with a corner and a size in any case.
+-- A layer as a line asks for it, beside its bounds or its box: its kind and place, whether it is a backdrop layer, its hook, and
+-- the size of a bitmap of its own, or 0 and 0. All numbers are the line's own, in their ranges or not; the call has a `Make` of
+-- them, with a corner and a size in any case.
 pub record NewLayer : Type 0 where
   pub kind : Kind
   pub place : Place
-  pub numbers : Four
   pub backdrop : Bool
   pub hook : Option ℤ
   pub bits_w : ℤ
@@ -65,10 +64,10 @@ pub data Act : Type 0 where
   RegRectAct : RectOp → ℤ → Rectangle → Act
   RegPairAct : PairOp → ℤ → ℤ → Act
   RegClearAct : ℤ → Act
-  CreateAct : NewLayer → Act
-  OpenAct : NewLayer → Bool → Bool → ℕ → List ℕ → Act
+  CreateAct : Rectangle → NewLayer → Act
+  OpenAct : Box → NewLayer → Bool → Bool → ℕ → List ℕ → Act
   InFrontAct : Act
-  BoxAct : Four → Act
+  BoxAct : Box → Act
   WhichAct : ℤ → ℤ → Act
   FillAct : Rectangle → Act
   ScrollRasterAct : ℤ → ℤ → Rectangle → Act
@@ -113,10 +112,10 @@ pub data Statement : Type 0 where
 
 -- What a line does with a window of two layers: it opens one, whose inner layer has this name and is of this kind, with a place,
 -- a box, classes of messages and a title; it gives it a box; it puts it in front of all others, behind them, or in front of a
--- layer; it closes it. A box is a place, a width and a height.
+-- layer; it closes it.
 pub data GzzAct : Type 0 where
-  OpenGzz : List ℕ → Kind → Place → Four → ℕ → List ℕ → GzzAct
-  BoxGzz : Four → GzzAct
+  OpenGzz : List ℕ → Kind → Place → Box → ℕ → List ℕ → GzzAct
+  BoxGzz : Box → GzzAct
   FrontGzz : GzzAct
   BehindGzz : GzzAct
   InFrontGzz : List ℕ → GzzAct
@@ -129,22 +128,21 @@ pub data Line : Type 0 where
   AreaLine : List ℕ → Option (List ℕ) → List Point → Line
   GzzLine : List ℕ → GzzAct → Line
 
-abbrev pub four : ℤ → ℤ → ℤ → ℤ → Four
-four a b c d = record { first = a; second = b; third = c; fourth = d }
+abbrev pub box : ℤ → ℤ → ℤ → ℤ → Box
+box x y w h = record { x = x; y = y; w = w; h = h }
 
--- the rectangle with these four bounds
-abbrev pub bounds : Four → Rectangle
-bounds n = record { min_x = n.first; min_y = n.second; max_x = n.third; max_y = n.fourth }
+abbrev pub rectangle : ℤ → ℤ → ℤ → ℤ → Rectangle
+rectangle x0 y0 x1 y1 = record { min_x = x0; min_y = y0; max_x = x1; max_y = y1 }
 
--- four numbers, and what stands after them
-abbrev pub four_numbers : List Token → Option (Four × List Token)
-four_numbers (NumberToken a x ∷ NumberToken b y ∷ NumberToken c z ∷ NumberToken d w ∷ ts) = Some (four x y z w, ts)
-four_numbers _ = None
+-- what is made of four numbers, a rectangle or a box, and what stands after them
+abbrev pub four_numbers : {A : Type 0} → (ℤ → ℤ → ℤ → ℤ → A) → List Token → Option (A × List Token)
+four_numbers make (NumberToken a x ∷ NumberToken b y ∷ NumberToken c z ∷ NumberToken d w ∷ ts) = Some (make x y z w, ts)
+four_numbers make _ = None
 
--- four numbers at the end of a line
-abbrev pub last_four : List Token → Option Four
-last_four (NumberToken a x ∷ NumberToken b y ∷ NumberToken c z ∷ NumberToken d w ∷ []) = Some (four x y z w)
-last_four _ = None
+-- what is made of four numbers at the end of a line
+abbrev pub last_four : {A : Type 0} → (ℤ → ℤ → ℤ → ℤ → A) → List Token → Option A
+last_four make (NumberToken a x ∷ NumberToken b y ∷ NumberToken c z ∷ NumberToken d w ∷ []) = Some (make x y z w)
+last_four make _ = None
 
 -- layers 2
 abbrev pub layers_line : List Token → Option Statement
@@ -255,7 +253,7 @@ text_line verb _ = None
 
 -- orrect R X0 Y0 X1 Y1, and its kin
 abbrev pub rect_line : RectOp → List Token → Option Statement
-rect_line op (NumberToken a r ∷ ts) = option_map (λ n. CallLine [] (RegRectAct op r (bounds n))) (last_four ts)
+rect_line op (NumberToken a r ∷ ts) = option_map (λ rect. CallLine [] (RegRectAct op r rect)) (last_four rectangle ts)
 rect_line op _ = None
 
 -- orregion S R, and its kin
@@ -279,14 +277,14 @@ infront_line (NameToken l ∷ NameToken m ∷ []) = Some (CallLine (l ∷ m ∷ 
 infront_line _ = None
 
 -- box L X Y W H, and fill L X0 Y0 X1 Y1
-abbrev pub four_line : (Four → Act) → List Token → Option Statement
-four_line act (NameToken l ∷ ts) = option_map (λ n. CallLine (l ∷ []) (act n)) (last_four ts)
+abbrev pub four_line : (ℤ → ℤ → ℤ → ℤ → Act) → List Token → Option Statement
+four_line act (NameToken l ∷ ts) = option_map (λ a. CallLine (l ∷ []) a) (last_four act ts)
 four_line act _ = None
 
 -- scrollraster L DX DY X0 Y0 X1 Y1
 abbrev pub scrollraster_line : List Token → Option Statement
 scrollraster_line (NameToken l ∷ NumberToken a dx ∷ NumberToken b dy ∷ ts) =
-    option_map (λ n. CallLine (l ∷ []) (ScrollRasterAct dx dy (bounds n))) (last_four ts)
+    option_map (λ rect. CallLine (l ∷ []) (ScrollRasterAct dx dy rect)) (last_four rectangle ts)
 scrollraster_line _ = None
 
 -- the minterm that bytes are: one byte whose lower four bits are 0
@@ -300,13 +298,12 @@ last_minterm (mm ∷ []) = minterm_of (bytes_in 1 mm)
 last_minterm _ = None
 
 -- what ends the line of a blit: X Y W H MM
-abbrev pub blit_end : List Token → Option (Four × ℕ)
-blit_end ts = option_and_then (λ target. option_map (λ m. (target.0, m)) (last_minterm target.1)) (four_numbers ts)
+abbrev pub blit_end : List Token → Option (Box × ℕ)
+blit_end ts = option_and_then (λ target. option_map (λ m. (target.0, m)) (last_minterm target.1)) (four_numbers box ts)
 
--- a blit from this place, to the place and of the size that four numbers are, and with this minterm
-abbrev pub blit_area : ℤ → ℤ → Four → ℕ → Area
-blit_area sx sy to m =
-    record { sx = sx; sy = sy; x = to.first; y = to.second; w = to.third; h = to.fourth; minterm = m }
+-- a blit from this place to a box, with this minterm
+abbrev pub blit_area : ℤ → ℤ → Box → ℕ → Area
+blit_area sx sy to m = record { sx = sx; sy = sy; x = to.x; y = to.y; w = to.w; h = to.h; minterm = m }
 
 -- put BM SX SY L X Y W H MM
 abbrev pub put_line : List Token → Option Statement
@@ -364,8 +361,8 @@ classes_from least (b ∷ bs) =
 
 -- what a set is, or none, with what stands after
 abbrev pub asked_classes : Option ℕ → List Token → List Token → ℕ × List Token
-asked_classes (Some classes) behind all = (classes, behind)
-asked_classes None behind all = (0, all)
+asked_classes (Some classes) rest all = (classes, rest)
+asked_classes None rest all = (0, all)
 
 -- optional words ask SET, and what stands after them
 abbrev pub ask_option : List Token → ℕ × List Token
@@ -380,73 +377,74 @@ at_end statement [] = Some statement
 at_end statement (t ∷ ts) = None
 
 -- a layer that is asked for without a bitmap of its own
-abbrev pub new_without_bitmap : Kind → Place → Four → Bool → Option ℤ → NewLayer
-new_without_bitmap kind place numbers backdrop hook =
-    record { kind = kind; place = place; numbers = numbers; backdrop = backdrop; hook = hook; bits_w = pos 0; bits_h = pos 0 }
+abbrev pub new_without_bitmap : Kind → Place → Bool → Option ℤ → NewLayer
+new_without_bitmap kind place backdrop hook =
+    record { kind = kind; place = place; backdrop = backdrop; hook = hook; bits_w = pos 0; bits_h = pos 0 }
 
 -- a layer that is asked for with a bitmap of its own
-abbrev pub new_super : Place → Four → Bool → ℤ → ℤ → NewLayer
-new_super place numbers backdrop w h =
-    record { kind = SuperBitmap; place = place; numbers = numbers; backdrop = backdrop; hook = None; bits_w = w; bits_h = h }
+abbrev pub new_super : Place → Bool → ℤ → ℤ → NewLayer
+new_super place backdrop w h =
+    record { kind = SuperBitmap; place = place; backdrop = backdrop; hook = None; bits_w = w; bits_h = h }
 
--- what stands after the four numbers of a creation without a bitmap of its own: [backdrop] [hook N]
-abbrev pub create_without_bitmap : List ℕ → Kind → Place → Four → List Token → Option Statement
-create_without_bitmap l kind place numbers ts =
+-- what stands after the bounds of a creation without a bitmap of its own: [backdrop] [hook N]
+abbrev pub create_without_bitmap : List ℕ → Kind → Place → Rectangle → List Token → Option Statement
+create_without_bitmap l kind place rect ts =
     let backdrop = flag (codes "backdrop") ts in
     let hook = hook_option backdrop.1 in
-    at_end (CallLine (l ∷ []) (CreateAct (new_without_bitmap kind place numbers backdrop.0 hook.0))) hook.1
+    at_end (CallLine (l ∷ []) (CreateAct rect (new_without_bitmap kind place backdrop.0 hook.0))) hook.1
 
 -- what stands after those of a creation with one: BW BH [backdrop]
-abbrev pub create_super : List ℕ → Place → Four → List Token → Option Statement
-create_super l place numbers (NumberToken a w ∷ NumberToken b h ∷ ts) =
+abbrev pub create_super : List ℕ → Place → Rectangle → List Token → Option Statement
+create_super l place rect (NumberToken a w ∷ NumberToken b h ∷ ts) =
     let backdrop = flag (codes "backdrop") ts in
-    at_end (CallLine (l ∷ []) (CreateAct (new_super place numbers backdrop.0 w h))) backdrop.1
-create_super l place numbers _ = None
+    at_end (CallLine (l ∷ []) (CreateAct rect (new_super place backdrop.0 w h))) backdrop.1
+create_super l place rect _ = None
 
 -- what stands after those of a creation of this kind
-abbrev pub create_kind : List ℕ → Place → Four → List Token → Kind → Option Statement
-create_kind l place numbers ts Simple = create_without_bitmap l Simple place numbers ts
-create_kind l place numbers ts Smart = create_without_bitmap l Smart place numbers ts
-create_kind l place numbers ts SuperBitmap = create_super l place numbers ts
+abbrev pub create_kind : List ℕ → Place → Rectangle → List Token → Kind → Option Statement
+create_kind l place rect ts Simple = create_without_bitmap l Simple place rect ts
+create_kind l place rect ts Smart = create_without_bitmap l Smart place rect ts
+create_kind l place rect ts SuperBitmap = create_super l place rect ts
 
 -- the title, where it is the last word
-abbrev pub titled_line : List ℕ → NewLayer → Bool → Bool → ℕ → List Token → Option Statement
-titled_line l layer framed nocare classes (TextToken title ∷ []) =
-    Some (CallLine (l ∷ []) (OpenAct layer framed nocare classes title))
-titled_line l layer framed nocare classes _ = None
+abbrev pub titled_line : List ℕ → Box → NewLayer → Bool → Bool → ℕ → List Token → Option Statement
+titled_line l at layer framed nocare classes (TextToken title ∷ []) =
+    Some (CallLine (l ∷ []) (OpenAct at layer framed nocare classes title))
+titled_line l at layer framed nocare classes _ = None
 
--- what stands after the four numbers of an opening without a bitmap of its own: [backdrop] [borderless] [nocare] [hook N]
+-- what stands after the box of an opening without a bitmap of its own: [backdrop] [borderless] [nocare] [hook N]
 -- [ask SET] "TITLE"
-abbrev pub open_without_bitmap : List ℕ → Kind → Place → Four → List Token → Option Statement
-open_without_bitmap l kind place numbers ts =
+abbrev pub open_without_bitmap : List ℕ → Kind → Place → Box → List Token → Option Statement
+open_without_bitmap l kind place at ts =
     let backdrop = flag (codes "backdrop") ts in
     let borderless = flag (codes "borderless") backdrop.1 in
     let nocare = flag (codes "nocare") borderless.1 in
     let hook = hook_option nocare.1 in
     let ask = ask_option hook.1 in
-    titled_line l (new_without_bitmap kind place numbers backdrop.0 hook.0) (not borderless.0) nocare.0 ask.0 ask.1
+    titled_line l at (new_without_bitmap kind place backdrop.0 hook.0) (not borderless.0) nocare.0 ask.0 ask.1
 
 -- what stands after those of an opening with one: BW BH [backdrop] [ask SET] "TITLE"
-abbrev pub open_super : List ℕ → Place → Four → List Token → Option Statement
-open_super l place numbers (NumberToken a w ∷ NumberToken b h ∷ ts) =
+abbrev pub open_super : List ℕ → Place → Box → List Token → Option Statement
+open_super l place at (NumberToken a w ∷ NumberToken b h ∷ ts) =
     let backdrop = flag (codes "backdrop") ts in
     let ask = ask_option backdrop.1 in
-    titled_line l (new_super place numbers backdrop.0 w h) false false ask.0 ask.1
-open_super l place numbers _ = None
+    titled_line l at (new_super place backdrop.0 w h) false false ask.0 ask.1
+open_super l place at _ = None
 
 -- what stands after those of an opening of this kind
-abbrev pub open_kind : List ℕ → Place → Four → List Token → Kind → Option Statement
-open_kind l place numbers ts Simple = open_without_bitmap l Simple place numbers ts
-open_kind l place numbers ts Smart = open_without_bitmap l Smart place numbers ts
-open_kind l place numbers ts SuperBitmap = open_super l place numbers ts
+abbrev pub open_kind : List ℕ → Place → Box → List Token → Kind → Option Statement
+open_kind l place at ts Simple = open_without_bitmap l Simple place at ts
+open_kind l place at ts Smart = open_without_bitmap l Smart place at ts
+open_kind l place at ts SuperBitmap = open_super l place at ts
 
 -- create L KIND PLACE X0 Y0 X1 Y1 .., and open L KIND PLACE X Y W H ..
 abbrev pub new_layer_line
-    : (List ℕ → Place → Four → List Token → Kind → Option Statement) → List Token → Option Statement
-new_layer_line behind (NameToken l ∷ NameToken k ∷ NameToken p ∷ ts) =
-    option_and_then (λ n. option_and_then (λ place. option_and_then (behind l place n.0 n.1) (kind_of k)) (place_of p))
-    (four_numbers ts)
-new_layer_line behind _ = None
+    : {A : Type 0} → (ℤ → ℤ → ℤ → ℤ → A) → (List ℕ → Place → A → List Token → Kind → Option Statement)
+    → List Token → Option Statement
+new_layer_line make rest (NameToken l ∷ NameToken k ∷ NameToken p ∷ ts) =
+    option_and_then (λ n. option_and_then (λ place. option_and_then (rest l place n.0 n.1) (kind_of k)) (place_of p))
+    (four_numbers make ts)
+new_layer_line make rest _ = None
 
 -- a point by its column and its row
 abbrev pub point : ℤ → ℤ → Point
@@ -477,25 +475,25 @@ abbrev pub inner_kind_of : List ℕ → Option Kind
 inner_kind_of w = if bytes_eq w (codes "simple") then Some Simple else (if bytes_eq w (codes "smart") then Some Smart else None)
 
 -- the title of a window of two layers, where it is the last word
-abbrev pub titled_gzz : List ℕ → List ℕ → Kind → Place → Four → ℕ → List Token → Option Line
-titled_gzz g i kind place box classes (TextToken title ∷ []) = Some (GzzLine g (OpenGzz i kind place box classes title))
-titled_gzz g i kind place box classes _ = None
+abbrev pub titled_gzz : List ℕ → List ℕ → Kind → Place → Box → ℕ → List Token → Option Line
+titled_gzz g i kind place at classes (TextToken title ∷ []) = Some (GzzLine g (OpenGzz i kind place at classes title))
+titled_gzz g i kind place at classes _ = None
 
--- what stands after its four numbers: [ask SET] "TITLE"
-abbrev pub opened_gzz : List ℕ → List ℕ → Place → Four → List Token → Kind → Option Line
-opened_gzz g i place box ts kind = let ask = ask_option ts in titled_gzz g i kind place box ask.0 ask.1
+-- what stands after its box: [ask SET] "TITLE"
+abbrev pub opened_gzz : List ℕ → List ℕ → Place → Box → List Token → Kind → Option Line
+opened_gzz g i place at ts kind = let ask = ask_option ts in titled_gzz g i kind place at ask.0 ask.1
 
 -- gopen G I KIND PLACE X Y W H ..
 abbrev pub gopen_line : List Token → Option Line
 gopen_line (NameToken g ∷ NameToken i ∷ NameToken k ∷ NameToken p ∷ ts) =
     option_and_then
     (λ n. option_and_then (λ place. option_and_then (opened_gzz g i place n.0 n.1) (inner_kind_of k)) (place_of p))
-    (four_numbers ts)
+    (four_numbers box ts)
 gopen_line _ = None
 
 -- gbox G X Y W H
 abbrev pub gbox_line : List Token → Option Line
-gbox_line (NameToken g ∷ ts) = option_map (λ n. GzzLine g (BoxGzz n)) (last_four ts)
+gbox_line (NameToken g ∷ ts) = option_map (λ at. GzzLine g (BoxGzz at)) (last_four box ts)
 gbox_line _ = None
 
 -- gfront G, and its kin
@@ -528,12 +526,12 @@ statement_by (Text verb) ts = text_line verb ts
 statement_by (Rect op) ts = rect_line op ts
 statement_by (Region op) ts = region_line op ts
 statement_by ClearRegion ts = clear_line ts
-statement_by Create ts = new_layer_line create_kind ts
-statement_by Open ts = new_layer_line open_kind ts
+statement_by Create ts = new_layer_line rectangle create_kind ts
+statement_by Open ts = new_layer_line box open_kind ts
 statement_by InFront ts = infront_line ts
-statement_by Box ts = four_line (λ n. BoxAct n) ts
+statement_by BoxOf ts = four_line (λ x y w h. BoxAct (box x y w h)) ts
 statement_by Which ts = which_line ts
-statement_by Fill ts = four_line (λ n. FillAct (bounds n)) ts
+statement_by Fill ts = four_line (λ x0 y0 x1 y1. FillAct (rectangle x0 y0 x1 y1)) ts
 statement_by ScrollRaster ts = scrollraster_line ts
 statement_by Put ts = put_line ts
 statement_by Blit ts = blit_line ts
@@ -564,17 +562,17 @@ is_own_size Simple w h = true
 is_own_size Smart w h = true
 is_own_size SuperBitmap w h = within (pos 1) w (pos 2048) && within (pos 1) h (pos 2048)
 
--- the numbers of a layer that is asked for, besides its four
+-- the numbers of a layer that is asked for, beside its bounds or its box
 abbrev pub is_new_layer_in_range : NewLayer → Bool
 is_new_layer_in_range a = is_hook_number a.hook && is_own_size a.kind a.bits_w a.bits_h
 
--- a place, a width and a height
-abbrev pub place_and_size_fit : Four → Bool
-place_and_size_fit n = coordinates_fit n.first n.second && (is_extent n.third && is_extent n.fourth)
+-- a box's numbers
+abbrev pub box_fits : Box → Bool
+box_fits at = coordinates_fit at.x at.y && (is_extent at.w && is_extent at.h)
 
 -- a blit's numbers
-abbrev pub is_area_in_range : Area → Bool
-is_area_in_range a = (coordinates_fit a.sx a.sy && coordinates_fit a.x a.y) && (is_extent a.w && is_extent a.h)
+abbrev pub is_blit_in_range : Area → Bool
+is_blit_in_range a = (coordinates_fit a.sx a.sy && coordinates_fit a.x a.y) && (is_extent a.w && is_extent a.h)
 
 -- the greatest number that a layer may have after it: a mode and a register are at most 7, a pen and a mask at most 255
 abbrev pub greatest_number : NumberVerb → ℕ
@@ -593,14 +591,14 @@ is_act_in_range (PairAct verb x y) = coordinates_fit x y
 is_act_in_range (RegRectAct op r rect) = within (pos 0) r (pos 7) && rect_fits rect
 is_act_in_range (RegPairAct op s r) = within (pos 0) s (pos 7) && within (pos 0) r (pos 7)
 is_act_in_range (RegClearAct r) = within (pos 0) r (pos 7)
-is_act_in_range (CreateAct layer) = rect_fits (bounds layer.numbers) && is_new_layer_in_range layer
-is_act_in_range (OpenAct layer framed nocare classes title) = place_and_size_fit layer.numbers && is_new_layer_in_range layer
-is_act_in_range (BoxAct n) = place_and_size_fit n
+is_act_in_range (CreateAct rect layer) = rect_fits rect && is_new_layer_in_range layer
+is_act_in_range (OpenAct at layer framed nocare classes title) = box_fits at && is_new_layer_in_range layer
+is_act_in_range (BoxAct at) = box_fits at
 is_act_in_range (WhichAct x y) = coordinates_fit x y
 is_act_in_range (FillAct rect) = rect_fits rect
 is_act_in_range (ScrollRasterAct dx dy rect) = coordinates_fit dx dy && rect_fits rect
-is_act_in_range (PutAct bm area) = is_area_in_range area
-is_act_in_range (BlitAct area) = is_area_in_range area
+is_act_in_range (PutAct bm area) = is_blit_in_range area
+is_act_in_range (BlitAct area) = is_blit_in_range area
 is_act_in_range act = true
 
 -- the version of a script whose screen line stands below lines that tell this version, or none by 0: without `layers 2` it is 1
@@ -626,14 +624,14 @@ is_line_in_range version statement = true
 
 -- A box that a window of two layers may have on a screen of this width and height: its first and last column and row are
 -- coordinates, it has room for a frame, and it is no wider and no higher than the screen.
-abbrev pub is_gzz_box : ℕ → ℕ → Four → Bool
-is_gzz_box width height n =
-    coordinates_fit n.first n.second
-    && ((within (pos 9) n.third (pos width) && within (pos 14) n.fourth (pos height))
-    && coordinates_fit ((n.first +ℤ n.third) -ℤ pos 1) ((n.second +ℤ n.fourth) -ℤ pos 1))
+abbrev pub is_gzz_box : ℕ → ℕ → Box → Bool
+is_gzz_box width height at =
+    coordinates_fit at.x at.y
+    && ((within (pos 9) at.w (pos width) && within (pos 14) at.h (pos height))
+    && coordinates_fit ((at.x +ℤ at.w) -ℤ pos 1) ((at.y +ℤ at.h) -ℤ pos 1))
 
 -- the box of what is done with such a window, if it has one, is one that it may have
 abbrev pub is_gzz_in_range : ℕ → ℕ → GzzAct → Bool
-is_gzz_in_range width height (OpenGzz inner kind place box classes title) = is_gzz_box width height box
-is_gzz_in_range width height (BoxGzz box) = is_gzz_box width height box
+is_gzz_in_range width height (OpenGzz inner kind place at classes title) = is_gzz_box width height at
+is_gzz_in_range width height (BoxGzz at) = is_gzz_box width height at
 is_gzz_in_range width height act = true

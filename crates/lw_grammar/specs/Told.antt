@@ -1,6 +1,5 @@
--- What the lines above a line of a script tell: one record, and what each statement adds to
--- it. Skipped lines and those after a line `report` tell nothing. The lines may be taken to be good, since only a script's
--- first bad line counts.
+-- What the lines above a line of a script tell: one record, and what each statement adds to it. Skipped lines and those after a
+-- line `report` tell nothing. The lines may be taken to be good, since only a script's first bad line counts.
 use Rattle.std.specs.Prelude.{ℕ, ◌+◌, ◌-◌, ◌*◌, ◌==◌, Bool, true, false, ◌||◌, if◌then◌else◌, List, [], ◌∷◌, ◌++◌, map, length}
 use Rattle.std.specs.Prelude.{ℤ, pos, ◌+ℤ◌, ◌-ℤ◌, unsigned_abs, Option, Some, None, option_map, slice_index, bytes_eq}
 use Rattle.std.specs.Prelude.{replicate}
@@ -43,7 +42,7 @@ use Rattle.lw_grammar.specs.Statements.{PutAct, BlitAct, EndRefreshAct, Statemen
 use Rattle.lw_grammar.specs.Statements.{BitmapLine, RowLine, PatternLine, TaskLine, EndLine, OrderLine, NumbersLine, ReportLine}
 use Rattle.lw_grammar.specs.Statements.{CallLine, LockLine, UnlockLine, HoldLine, ReleaseLine, NameSeen, PairMade, GzzAct}
 use Rattle.lw_grammar.specs.Statements.{OpenGzz, BoxGzz, FrontGzz, BehindGzz, InFrontGzz, CloseGzz, Line, StatementLine}
-use Rattle.lw_grammar.specs.Statements.{AreaLine, GzzLine, Four, four, bounds, new_without_bitmap, version_at_screen}
+use Rattle.lw_grammar.specs.Statements.{AreaLine, GzzLine, Box, box, new_without_bitmap, version_at_screen}
 
 -- The parts of a script, by what is due in them: the screen, before which the version may stand; glyphs, bitmaps, patterns and
 -- the first task; in a task calls, groups or its end; after a task a further one, an order or a report; numbers of an order;
@@ -72,15 +71,15 @@ pub record NamedPair : Type 0 where
 -- further rows stand after those of the nearest one; the width of the nearest one, and how many of its rows are due; the
 -- patterns' names, and the words of each; the names of the tasks, and those of the layers in the order of their first
 -- appearance; the layers' names on lines of areas without a pixel, which have no slot by these; the windows of two layers; how
--- many lines ask for a super-bitmap layer; which hooks are named; the group that is open, and how many calls its task had when it
--- began; how many calls the nearest task has; each task's calls and groups; and the order.
+-- many lines ask for a super-bitmap layer; which hooks are named; the group that is open, and how many calls stand before it in
+-- its task; how many calls the nearest task has; each task's calls and groups; and the order.
 pub record Told : Type 0 where
   pub version : ℕ
   pub section : Section
   pub width : ℕ
   pub height : ℕ
   pub depth : ℕ
-  pub given : ℕ → Bool
+  pub glyph_codes : ℕ → Bool
   pub glyphs : ℕ → List ℕ
   pub bitmap_names : List (List ℕ)
   pub bitmaps : List ℕ → List Bitmap
@@ -90,13 +89,13 @@ pub record Told : Type 0 where
   pub patterns : List (List ℕ)
   pub tasks : List (List ℕ)
   pub names : List (List ℕ)
-  pub seen : List (List ℕ)
+  pub names_without_slot : List (List ℕ)
   pub pairs : List NamedPair
   pub supers : ℕ
-  pub used : ℕ → Bool
+  pub hooks_named : ℕ → Bool
   pub group : Option OpenGroup
-  pub began : ℕ
-  pub so_far : ℕ
+  pub calls_before_group : ℕ
+  pub calls_in_task : ℕ
   pub calls : List (List Call)
   pub groups : List (List Group)
   pub order : List ℕ
@@ -110,7 +109,7 @@ nothing_told =
       width = 0;
       height = 0;
       depth = 0;
-      given = λ code. false;
+      glyph_codes = λ code. false;
       glyphs = λ code. replicate 8 0;
       bitmap_names = [];
       bitmaps = λ rows. [];
@@ -120,13 +119,13 @@ nothing_told =
       patterns = [];
       tasks = [];
       names = [];
-      seen = [];
+      names_without_slot = [];
       pairs = [];
       supers = 0;
-      used = λ hook. false;
+      hooks_named = λ hook. false;
       group = None;
-      began = 0;
-      so_far = 0;
+      calls_before_group = 0;
+      calls_in_task = 0;
       calls = [];
       groups = [];
       order = [];
@@ -151,8 +150,7 @@ onto_last a [] = []
 onto_last a (list ∷ []) = (list ++ a ∷ []) ∷ []
 onto_last a (list ∷ next ∷ rest) = list ∷ onto_last a (next ∷ rest)
 
--- The numbers that a layer is asked for with, as the call has them: a creation's four are its bounds, an opening's its place
--- and size.
+-- The numbers that a layer is asked for with, as the call has them.
 abbrev pub make_of : NewLayer → ℤ → ℤ → ℤ → ℤ → Make
 make_of a x y w h =
     record {
@@ -169,14 +167,12 @@ make_of a x y w h =
     }
 
 -- the bounds that a creation asks for as a corner and a size
-abbrev pub created_make : NewLayer → Make
-created_make a =
-    let r = bounds a.numbers in
-    make_of a r.min_x r.min_y ((r.max_x -ℤ r.min_x) +ℤ pos 1) ((r.max_y -ℤ r.min_y) +ℤ pos 1)
+abbrev pub created_make : Rectangle → NewLayer → Make
+created_make r a = make_of a r.min_x r.min_y ((r.max_x -ℤ r.min_x) +ℤ pos 1) ((r.max_y -ℤ r.min_y) +ℤ pos 1)
 
--- an opening asks for a place, a width and a height
-abbrev pub opened_make : NewLayer → Make
-opened_make a = make_of a a.numbers.first a.numbers.second a.numbers.third a.numbers.fourth
+-- an opening asks for a box
+abbrev pub opened_make : Box → NewLayer → Make
+opened_make at a = make_of a at.x at.y at.w at.h
 
 -- The calls of the verbs that have a layer alone after them, and one with a number, with two numbers or with a text; s is the
 -- layer's slot.
@@ -220,11 +216,11 @@ spelled_call bitmaps (TextAct verb text) slots = text_call verb (slice_index slo
 spelled_call bitmaps (RegRectAct op r rect) slots = RegRect op (unsigned_abs r) rect
 spelled_call bitmaps (RegPairAct op s r) slots = RegPair op (unsigned_abs s) (unsigned_abs r)
 spelled_call bitmaps (RegClearAct r) slots = RegClear (unsigned_abs r)
-spelled_call bitmaps (CreateAct layer) slots = Create (slice_index slots 0) (created_make layer)
-spelled_call bitmaps (OpenAct layer framed nocare classes title) slots =
-    OpenWindow (slice_index slots 0) (opened_make layer) framed nocare classes title
+spelled_call bitmaps (CreateAct rect layer) slots = Create (slice_index slots 0) (created_make rect layer)
+spelled_call bitmaps (OpenAct at layer framed nocare classes title) slots =
+    OpenWindow (slice_index slots 0) (opened_make at layer) framed nocare classes title
 spelled_call bitmaps InFrontAct slots = InFrontOf (slice_index slots 0) (slice_index slots 1)
-spelled_call bitmaps (BoxAct n) slots = SetBox (slice_index slots 0) n.first n.second n.third n.fourth
+spelled_call bitmaps (BoxAct at) slots = SetBox (slice_index slots 0) at.x at.y at.w at.h
 spelled_call bitmaps (WhichAct x y) slots = Which x y
 spelled_call bitmaps (FillAct rect) slots = Fill (slice_index slots 0) rect
 spelled_call bitmaps (ScrollRasterAct dx dy rect) slots = ScrollRaster (slice_index slots 0) dx dy rect
@@ -238,39 +234,39 @@ call_below t layers act = spelled_call t.bitmap_names act (map (place_among (and
 
 -- the line asks for a layer with a bitmap of its own
 abbrev pub makes_super : Statement → Bool
-makes_super (CallLine layers (CreateAct layer)) = is_super layer.kind
-makes_super (CallLine layers (OpenAct layer framed nocare classes title)) = is_super layer.kind
+makes_super (CallLine layers (CreateAct rect layer)) = is_super layer.kind
+makes_super (CallLine layers (OpenAct at layer framed nocare classes title)) = is_super layer.kind
 makes_super statement = false
 
 -- the hook that a line names
 abbrev pub hook_on : Statement → Option ℤ
-hook_on (CallLine layers (CreateAct layer)) = layer.hook
-hook_on (CallLine layers (OpenAct layer framed nocare classes title)) = layer.hook
+hook_on (CallLine layers (CreateAct rect layer)) = layer.hook
+hook_on (CallLine layers (OpenAct at layer framed nocare classes title)) = layer.hook
 hook_on (CallLine layers (NumberAct HookVerb z)) = Some z
 hook_on statement = None
 
 -- which hooks are named, with a further one
 abbrev pub and_hook : Option ℤ → (ℕ → Bool) → ℕ → Bool
-and_hook None used = used
-and_hook (Some n) used = λ hook. (unsigned_abs n == hook) || used hook
+and_hook None hooks_named = hooks_named
+and_hook (Some n) hooks_named = λ hook. (unsigned_abs n == hook) || hooks_named hook
 
--- the group that is open after an act, and how many calls its task had when it began
+-- the group that is open after an act, and how many calls stand before it in its task
 abbrev pub left_open_by : List (List ℕ) → Act → Option OpenGroup → Option OpenGroup
 left_open_by (l ∷ []) (BareAct RefreshVerb) group = Some (Updating l)
 left_open_by layers (EndRefreshAct full) group = None
 left_open_by layers act group = group
 
 abbrev pub began_by : Act → ℕ → ℕ → ℕ
-began_by (BareAct RefreshVerb) so_far began = so_far
-began_by act so_far began = began
+began_by (BareAct RefreshVerb) calls_in_task calls_before_group = calls_in_task
+began_by act calls_in_task calls_before_group = calls_before_group
 
 -- the group that ends with the last of so many calls of its task
 abbrev pub group_from : Told → Hold → ℕ → Group
-group_from t hold calls = record { first = t.began; last = calls - 1; hold = hold }
+group_from t hold calls = record { first = t.calls_before_group; last = calls - 1; hold = hold }
 
 -- each task's groups after an act, which ends an update, or ends none
 abbrev pub ended_by : List (List ℕ) → Act → Told → List (List Group)
-ended_by (l ∷ []) (EndRefreshAct full) t = onto_last (group_from t (Slot (place_among t.names l)) (t.so_far + 1)) t.groups
+ended_by (l ∷ []) (EndRefreshAct full) t = onto_last (group_from t (Slot (place_among t.names l)) (t.calls_in_task + 1)) t.groups
 ended_by layers act t = t.groups
 
 -- What a line with this statement adds to what the lines above it tell.
@@ -285,7 +281,7 @@ told_with (ScreenLine w h d) t =
       depth = unsigned_abs d;
     }
 told_with (GlyphLine code rows) t =
-    record t { given = λ c. (code == c) || t.given c; glyphs = λ c. if code == c then rows else t.glyphs c }
+    record t { glyph_codes = λ c. (code == c) || t.glyph_codes c; glyphs = λ c. if code == c then rows else t.glyphs c }
 told_with (BitmapLine name w h d) t =
     record t {
       bitmap_names = t.bitmap_names ++ name ∷ [];
@@ -300,7 +296,7 @@ told_with (TaskLine name) t =
     record t {
       section = CallsAreDue;
       tasks = t.tasks ++ name ∷ [];
-      so_far = 0;
+      calls_in_task = 0;
       calls = t.calls ++ [] ∷ [];
       groups = t.groups ++ [] ∷ [];
     }
@@ -312,23 +308,24 @@ told_with (CallLine layers act) t =
     record t {
       names = and_names t.names layers;
       supers = (if makes_super (CallLine layers act) then 1 else 0) + t.supers;
-      used = and_hook (hook_on (CallLine layers act)) t.used;
+      hooks_named = and_hook (hook_on (CallLine layers act)) t.hooks_named;
       group = left_open_by layers act t.group;
-      began = began_by act t.so_far t.began;
-      so_far = t.so_far + 1;
+      calls_before_group = began_by act t.calls_in_task t.calls_before_group;
+      calls_in_task = t.calls_in_task + 1;
       calls = onto_last (call_below t layers act) t.calls;
       groups = ended_by layers act t;
     }
-told_with (LockLine name) t = record t { names = and_name t.names name; group = Some (Locked name); began = t.so_far }
+told_with (LockLine name) t =
+    record t { names = and_name t.names name; group = Some (Locked name); calls_before_group = t.calls_in_task }
 told_with (UnlockLine name) t =
     record t {
       names = and_name t.names name;
       group = None;
-      groups = onto_last (group_from t (Slot (place_among t.names name)) t.so_far) t.groups;
+      groups = onto_last (group_from t (Slot (place_among t.names name)) t.calls_in_task) t.groups;
     }
-told_with HoldLine t = record t { group = Some Held; began = t.so_far }
-told_with ReleaseLine t = record t { group = None; groups = onto_last (group_from t All t.so_far) t.groups }
-told_with (NameSeen name) t = record t { seen = and_name t.seen name }
+told_with HoldLine t = record t { group = Some Held; calls_before_group = t.calls_in_task }
+told_with ReleaseLine t = record t { group = None; groups = onto_last (group_from t All t.calls_in_task) t.groups }
+told_with (NameSeen name) t = record t { names_without_slot = and_name t.names_without_slot name }
 told_with (PairMade outer inner) t = record t { pairs = t.pairs ++ record { outer = outer; inner = inner } ∷ [] }
 
 -- What lines with these statements tell, the nearest first.
@@ -357,19 +354,19 @@ abbrev pub inner_of : List NamedPair → List ℕ → List ℕ
 inner_of [] name = []
 inner_of (p ∷ ps) name = if bytes_eq name p.outer then p.inner else inner_of ps name
 
--- The box X Y W H of the inner layer in that of the outer one: a frame takes 4 columns on each side, 11 rows at the top and 2 at
+-- The box of the inner layer in that of the outer one: a frame takes 4 columns on each side, 11 rows at the top and 2 at
 -- the bottom.
-abbrev pub inner_box : Four → Four
-inner_box n = four (n.first +ℤ pos 4) (n.second +ℤ pos 11) (n.third -ℤ pos 8) (n.fourth -ℤ pos 13)
+abbrev pub inner_box : Box → Box
+inner_box at = box (at.x +ℤ pos 4) (at.y +ℤ pos 11) (at.w -ℤ pos 8) (at.h -ℤ pos 13)
 
 -- the calls of what is done with a window of these two layers
 abbrev pub gzz_calls : List ℕ → List ℕ → GzzAct → List Statement
-gzz_calls g i (OpenGzz inner kind place r classes title) =
-    CallLine (g ∷ []) (OpenAct (new_without_bitmap Smart place r false None) true false classes title)
-    ∷ CallLine (i ∷ []) (OpenAct (new_without_bitmap kind place (inner_box r) false None) false false classes [])
+gzz_calls g i (OpenGzz inner kind place at classes title) =
+    CallLine (g ∷ []) (OpenAct at (new_without_bitmap Smart place false None) true false classes title)
+    ∷ CallLine (i ∷ []) (OpenAct (inner_box at) (new_without_bitmap kind place false None) false false classes [])
     ∷ CallLine (i ∷ g ∷ []) InFrontAct
     ∷ []
-gzz_calls g i (BoxGzz n) = CallLine (g ∷ []) (BoxAct n) ∷ CallLine (i ∷ []) (BoxAct (inner_box n)) ∷ []
+gzz_calls g i (BoxGzz at) = CallLine (g ∷ []) (BoxAct at) ∷ CallLine (i ∷ []) (BoxAct (inner_box at)) ∷ []
 gzz_calls g i FrontGzz = CallLine (g ∷ []) (BareAct FrontVerb) ∷ CallLine (i ∷ []) (BareAct FrontVerb) ∷ []
 gzz_calls g i BehindGzz = CallLine (i ∷ []) (BareAct BehindVerb) ∷ CallLine (g ∷ []) (BareAct BehindVerb) ∷ []
 gzz_calls g i (InFrontGzz m) = CallLine (g ∷ m ∷ []) InFrontAct ∷ CallLine (i ∷ g ∷ []) InFrontAct ∷ []
@@ -377,12 +374,12 @@ gzz_calls g i CloseGzz = CallLine (g ∷ []) (BareAct CloseVerb) ∷ CallLine (i
 
 -- the inner layer of the window, which an opening names itself
 abbrev pub inner_by : List NamedPair → List ℕ → GzzAct → List ℕ
-inner_by pairs g (OpenGzz inner kind place r classes title) = inner
+inner_by pairs g (OpenGzz inner kind place at classes title) = inner
 inner_by pairs g act = inner_of pairs g
 
 -- an opening makes a pair
 abbrev pub pair_lines : List ℕ → GzzAct → List Statement
-pair_lines g (OpenGzz inner kind place r classes title) = PairMade g inner ∷ []
+pair_lines g (OpenGzz inner kind place at classes title) = PairMade g inner ∷ []
 pair_lines g act = []
 
 -- The statements that it stands for: its calls in a hold group.

@@ -1,10 +1,16 @@
-ghost use Rattle.lw_grammar.specs.Script.{InputsAreDecided, SpelledInputsAreRunnable};
+ghost use Rattle.lw_grammar.specs.Laws.{InputsAreDecided, ReadingFailsAtFirstBadLines, SpelledInputsAreRunnable};
 
 /// A law of the grammar of scripts, which does nothing: any bytes, read with any number of hooks as
 /// a script alone, with an order or with a report, either have a first bad line, with one number and one reason, or they
 /// spell an input, and one only.
 pub fn inputs_are_decided()
     ensures { InputsAreDecided }
+{}
+
+/// A law of the grammar of scripts, which does nothing: reading lines one after another fails exactly where there is a first bad
+/// line, with its number and its first reason.
+pub fn reading_fails_at_first_bad_lines()
+    ensures { ReadingFailsAtFirstBadLines }
 {}
 
 /// A law of the grammar of scripts, which does nothing: an input that bytes spell may be run. Its

@@ -1,15 +1,15 @@
 ghost use Rattle.std.specs.Prelude.{◌≡◌, map, option_map};
 ghost use Rattle.lw_words.specs.TokenMeaning.{token_meaning};
-ghost use Rattle.lw_grammar.specs.Statements.{four_numbers, last_four};
-ghost use Rattle.lw_statements.specs.StatementMeaning.{corners_meaning};
+ghost use Rattle.lw_grammar.specs.Statements.{box, rectangle, four_numbers, last_four};
+ghost use Rattle.lw_statements.specs.StatementMeaning.{corners_meaning, box_meaning};
 
-use lw_statements::Corners;
+use lw_statements::{AskedBox, Corners};
 use lw_words::Token;
 
-/// Four numbers, and what stands after them.
+/// The bounds of a rectangle, and what stands after them.
 pub(crate) fn corners_in<'a, 'b>(tokens: &'b [Token<'a>]) -> Option<(Corners, &'b [Token<'a>])>
     ensures { option_map (λ p. (corners_meaning p.0, map token_meaning p.1.now)) result
-        ≡ four_numbers (map token_meaning tokens.now) }
+        ≡ four_numbers rectangle (map token_meaning tokens.now) }
 {
     match tokens {
         [
@@ -31,9 +31,34 @@ pub(crate) fn corners_in<'a, 'b>(tokens: &'b [Token<'a>]) -> Option<(Corners, &'
     }
 }
 
-/// Four numbers at the end of a line.
+/// A box, and what stands after it.
+pub(crate) fn box_in<'a, 'b>(tokens: &'b [Token<'a>]) -> Option<(AskedBox, &'b [Token<'a>])>
+    ensures { option_map (λ p. (box_meaning p.0, map token_meaning p.1.now)) result
+        ≡ four_numbers box (map token_meaning tokens.now) }
+{
+    match tokens {
+        [
+            Token::Number(_, x),
+            Token::Number(_, y),
+            Token::Number(_, w),
+            Token::Number(_, h),
+            rest @ ..,
+        ] => {
+            let at = AskedBox {
+                x: *x,
+                y: *y,
+                w: *w,
+                h: *h,
+            };
+            Some((at, rest))
+        }
+        _ => None,
+    }
+}
+
+/// The bounds of a rectangle at the end of a line.
 pub(crate) fn only_corners(tokens: &[Token<'_>]) -> Option<Corners>
-    ensures { option_map corners_meaning result ≡ last_four (map token_meaning tokens.now) }
+    ensures { option_map corners_meaning result ≡ last_four rectangle (map token_meaning tokens.now) }
 {
     match tokens {
         [
@@ -46,6 +71,26 @@ pub(crate) fn only_corners(tokens: &[Token<'_>]) -> Option<Corners>
             y0: *y0,
             x1: *x1,
             y1: *y1,
+        }),
+        _ => None,
+    }
+}
+
+/// A box at the end of a line.
+pub(crate) fn only_box(tokens: &[Token<'_>]) -> Option<AskedBox>
+    ensures { option_map box_meaning result ≡ last_four box (map token_meaning tokens.now) }
+{
+    match tokens {
+        [
+            Token::Number(_, x),
+            Token::Number(_, y),
+            Token::Number(_, w),
+            Token::Number(_, h),
+        ] => Some(AskedBox {
+            x: *x,
+            y: *y,
+            w: *w,
+            h: *h,
         }),
         _ => None,
     }

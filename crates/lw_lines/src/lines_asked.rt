@@ -1,15 +1,16 @@
 ghost use Rattle.std.specs.Prelude.{◌≡◌, ◌≤◌, IfSome, map, option_map, [], ◌∷◌};
 ghost use Rattle.lw_grammar.specs.Statements.{kind_of, place_of, flag as flag_meant, hook_option, message_class_of};
-ghost use Rattle.lw_grammar.specs.Statements.{classes_from, ask_option, create_without_bitmap, create_super, titled_line};
-ghost use Rattle.lw_grammar.specs.Statements.{open_without_bitmap, open_super, new_layer_line};
+ghost use Rattle.lw_grammar.specs.Statements.{classes_from, ask_option, create_without_bitmap, create_super, create_kind};
+ghost use Rattle.lw_grammar.specs.Statements.{titled_line, open_without_bitmap, open_super, open_kind, new_layer_line};
+ghost use Rattle.lw_grammar.specs.Statements.{box, rectangle};
 ghost use Rattle.lw_grammar.specs.Tokens.{NumberToken};
 ghost use Rattle.lw_words.specs.TokenMeaning.{token_meaning};
-ghost use Rattle.lw_statements.specs.StatementMeaning.{statement_meaning, corners_meaning, new_layer_meaning};
-ghost use Rattle.lw_lines.specs.AskedParts.{after_numbers, with_words, with_numbers};
+ghost use Rattle.lw_statements.specs.StatementMeaning.{statement_meaning, corners_meaning, box_meaning, new_layer_meaning};
+ghost use Rattle.lw_lines.specs.AskedParts.{with_words, with_numbers};
 
-use crate::corners::corners_in;
+use crate::corners::{box_in, corners_in};
 use lw_calls::{Kind, Place};
-use lw_statements::{Act, Corners, NewLayer, Statement};
+use lw_statements::{Act, AskedBox, Corners, NewLayer, Statement};
 use lw_words::{Token, is_text};
 
 fn kind_of(word: &[u8]) -> Option<Kind>
@@ -124,16 +125,16 @@ pub(crate) fn asks_in<'a, 'b>(tokens: &'b [Token<'a>]) -> (u8, &'b [Token<'a>])
     }
 }
 
-/// What stands after the four numbers of a creation: `[backdrop] [hook N]`
+/// What stands after the bounds of a creation: `[backdrop] [hook N]`
 fn create_without_bitmap<'a>(
     layer: &'a [u8],
     kind: Kind,
     place: Place,
-    numbers: Corners,
+    corners: Corners,
     tokens: &[Token<'a>],
 ) -> Option<Statement<'a>>
     ensures { option_map statement_meaning result
-        ≡ create_without_bitmap layer.now kind place (corners_meaning numbers)
+        ≡ create_without_bitmap layer.now kind place (corners_meaning corners)
         (map token_meaning tokens.now) }
 {
     let (backdrop, rest) = flag(b"backdrop", tokens);
@@ -141,19 +142,19 @@ fn create_without_bitmap<'a>(
     if !rest.is_empty() {
         return None;
     }
-    let asked = NewLayer::without_bitmap(kind, place, numbers, backdrop, hook);
-    Some(Statement::on(layer, Act::Create(asked)))
+    let asked = NewLayer::without_bitmap(kind, place, backdrop, hook);
+    Some(Statement::on(layer, Act::Create { corners, asked }))
 }
 
 /// `BW BH [backdrop]`
 fn create_super<'a>(
     layer: &'a [u8],
     place: Place,
-    numbers: Corners,
+    corners: Corners,
     tokens: &[Token<'a>],
 ) -> Option<Statement<'a>>
     ensures { option_map statement_meaning result
-        ≡ create_super layer.now place (corners_meaning numbers) (map token_meaning tokens.now) }
+        ≡ create_super layer.now place (corners_meaning corners) (map token_meaning tokens.now) }
 {
     match tokens {
         [
@@ -168,13 +169,12 @@ fn create_super<'a>(
             let asked = NewLayer {
                 kind: Kind::SuperBitmap,
                 place,
-                numbers,
                 backdrop,
                 hook: None,
                 bits_w: *bits_w,
                 bits_h: *bits_h,
             };
-            Some(Statement::on(layer, Act::Create(asked)))
+            Some(Statement::on(layer, Act::Create { corners, asked }))
         }
         _ => None,
     }
@@ -183,6 +183,7 @@ fn create_super<'a>(
 /// An opening, where its title is the last word.
 fn titled<'a>(
     layer: &'a [u8],
+    at: AskedBox,
     asked: NewLayer,
     framed: bool,
     nocare: bool,
@@ -190,7 +191,8 @@ fn titled<'a>(
     tokens: &[Token<'a>],
 ) -> Option<Statement<'a>>
     ensures { option_map statement_meaning result
-        ≡ titled_line layer.now (new_layer_meaning asked) framed nocare classes (map token_meaning tokens.now) }
+        ≡ titled_line layer.now (box_meaning at) (new_layer_meaning asked) framed nocare classes
+        (map token_meaning tokens.now) }
 {
     match tokens {
         [Token::Text(title)] => {
@@ -198,6 +200,7 @@ fn titled<'a>(
             Some(Statement::on(
                 layer,
                 Act::Open {
+                    at,
                     asked,
                     framed,
                     nocare,
@@ -210,16 +213,16 @@ fn titled<'a>(
     }
 }
 
-/// What stands after the four numbers of an opening: `[backdrop] [borderless] [nocare] [hook N] [ask SET] "TITLE"`
+/// What stands after the box of an opening: `[backdrop] [borderless] [nocare] [hook N] [ask SET] "TITLE"`
 fn open_without_bitmap<'a>(
     layer: &'a [u8],
     kind: Kind,
     place: Place,
-    numbers: Corners,
+    at: AskedBox,
     tokens: &[Token<'a>],
 ) -> Option<Statement<'a>>
     ensures { option_map statement_meaning result
-        ≡ open_without_bitmap layer.now kind place (corners_meaning numbers)
+        ≡ open_without_bitmap layer.now kind place (box_meaning at)
         (map token_meaning tokens.now) }
 {
     let (backdrop, rest) = flag(b"backdrop", tokens);
@@ -227,20 +230,20 @@ fn open_without_bitmap<'a>(
     let (nocare, rest) = flag(b"nocare", rest);
     let (hook, rest) = hook_in(rest);
     let (classes, rest) = asks_in(rest);
-    let asked = NewLayer::without_bitmap(kind, place, numbers, backdrop, hook);
-    titled(layer, asked, !borderless, nocare, classes, rest)
+    let asked = NewLayer::without_bitmap(kind, place, backdrop, hook);
+    titled(layer, at, asked, !borderless, nocare, classes, rest)
 }
 
 /// What stands after the size of a bitmap of its own: `[backdrop] [ask SET] "TITLE"`
 fn open_sized<'a>(
     layer: &'a [u8],
     place: Place,
-    numbers: Corners,
+    at: AskedBox,
     bits_w: i64,
     bits_h: i64,
     tokens: &[Token<'a>],
 ) -> Option<Statement<'a>>
-    ensures { option_map statement_meaning result ≡ open_super layer.now place (corners_meaning numbers)
+    ensures { option_map statement_meaning result ≡ open_super layer.now place (box_meaning at)
         (NumberToken [] bits_w ∷ NumberToken [] bits_h ∷ map token_meaning tokens.now) }
 {
     let (backdrop, rest) = flag(b"backdrop", tokens);
@@ -248,23 +251,22 @@ fn open_sized<'a>(
     let asked = NewLayer {
         kind: Kind::SuperBitmap,
         place,
-        numbers,
         backdrop,
         hook: None,
         bits_w,
         bits_h,
     };
-    titled(layer, asked, false, false, classes, rest)
+    titled(layer, at, asked, false, false, classes, rest)
 }
 
 /// `BW BH [backdrop] [ask SET] "TITLE"`
 fn open_super<'a>(
     layer: &'a [u8],
     place: Place,
-    numbers: Corners,
+    at: AskedBox,
     tokens: &[Token<'a>],
 ) -> Option<Statement<'a>>
-    ensures { option_map statement_meaning result ≡ open_super layer.now place (corners_meaning numbers)
+    ensures { option_map statement_meaning result ≡ open_super layer.now place (box_meaning at)
         (map token_meaning tokens.now) }
 {
     match tokens {
@@ -272,72 +274,94 @@ fn open_super<'a>(
             Token::Number(_, bits_w),
             Token::Number(_, bits_h),
             rest @ ..,
-        ] => { open_sized(layer, place, numbers, *bits_w, *bits_h, rest) }
+        ] => { open_sized(layer, place, at, *bits_w, *bits_h, rest) }
         _ => None,
     }
 }
 
-/// What is asked for.
-#[derive(Clone, Copy)]
-pub(crate) enum Request {
-    /// A layer: `create`.
-    Creation,
-    /// A window: `open`.
-    Opening,
-}
-
-/// What stands after the four numbers of a request.
-fn kind_line<'a>(
-    request: Request,
+/// What stands after the bounds of a creation of this kind.
+fn create_kind<'a>(
     layer: &'a [u8],
     kind: Kind,
     place: Place,
-    numbers: Corners,
+    corners: Corners,
     tokens: &[Token<'a>],
 ) -> Option<Statement<'a>>
-    ensures { option_map statement_meaning result ≡
-        after_numbers request layer.now place (corners_meaning numbers) (map token_meaning tokens.now) kind }
+    ensures { option_map statement_meaning result
+        ≡ create_kind layer.now place (corners_meaning corners) (map token_meaning tokens.now) kind }
 {
-    match request {
-        Request::Creation => match kind {
-            Kind::Simple => create_without_bitmap(layer, Kind::Simple, place, numbers, tokens),
-            Kind::Smart => create_without_bitmap(layer, Kind::Smart, place, numbers, tokens),
-            Kind::SuperBitmap => create_super(layer, place, numbers, tokens),
-        },
-        Request::Opening => match kind {
-            Kind::Simple => open_without_bitmap(layer, Kind::Simple, place, numbers, tokens),
-            Kind::Smart => open_without_bitmap(layer, Kind::Smart, place, numbers, tokens),
-            Kind::SuperBitmap => open_super(layer, place, numbers, tokens),
-        },
+    match kind {
+        Kind::Simple => create_without_bitmap(layer, Kind::Simple, place, corners, tokens),
+        Kind::Smart => create_without_bitmap(layer, Kind::Smart, place, corners, tokens),
+        Kind::SuperBitmap => create_super(layer, place, corners, tokens),
     }
 }
 
-/// What stands after the three names of a request.
-fn named_line<'a>(
-    request: Request,
+/// What stands after the box of an opening of this kind.
+fn open_kind<'a>(
+    layer: &'a [u8],
+    kind: Kind,
+    place: Place,
+    at: AskedBox,
+    tokens: &[Token<'a>],
+) -> Option<Statement<'a>>
+    ensures { option_map statement_meaning result
+        ≡ open_kind layer.now place (box_meaning at) (map token_meaning tokens.now) kind }
+{
+    match kind {
+        Kind::Simple => open_without_bitmap(layer, Kind::Simple, place, at, tokens),
+        Kind::Smart => open_without_bitmap(layer, Kind::Smart, place, at, tokens),
+        Kind::SuperBitmap => open_super(layer, place, at, tokens),
+    }
+}
+
+/// What stands after the three names of a creation.
+fn created<'a>(
     layer: &'a [u8],
     kind: &[u8],
     place: &[u8],
     tokens: &[Token<'a>],
 ) -> Option<Statement<'a>>
-    ensures { option_map statement_meaning result ≡
-        with_numbers (with_words (after_numbers request) layer.now kind.now place.now) (map token_meaning tokens.now) }
+    ensures { option_map statement_meaning result
+        ≡ with_numbers rectangle (with_words create_kind layer.now kind.now place.now) (map token_meaning tokens.now) }
 {
     match corners_in(tokens) {
         None => None,
-        Some((numbers, rest)) => match place_of(place) {
+        Some((corners, rest)) => match place_of(place) {
             None => None,
             Some(place) => match kind_of(kind) {
                 None => None,
-                Some(kind) => kind_line(request, layer, kind, place, numbers, rest),
+                Some(kind) => create_kind(layer, kind, place, corners, rest),
             },
         },
     }
 }
 
-/// `create L KIND PLACE X0 Y0 X1 Y1 ..`, and `open L KIND PLACE X Y W H ..`
-pub(crate) fn new_layer_line<'a>(request: Request, tokens: &[Token<'a>]) -> Option<Statement<'a>>
-    ensures { option_map statement_meaning result ≡ new_layer_line (after_numbers request) (map token_meaning tokens.now) }
+/// What stands after the three names of an opening.
+fn opened<'a>(
+    layer: &'a [u8],
+    kind: &[u8],
+    place: &[u8],
+    tokens: &[Token<'a>],
+) -> Option<Statement<'a>>
+    ensures { option_map statement_meaning result
+        ≡ with_numbers box (with_words open_kind layer.now kind.now place.now) (map token_meaning tokens.now) }
+{
+    match box_in(tokens) {
+        None => None,
+        Some((at, rest)) => match place_of(place) {
+            None => None,
+            Some(place) => match kind_of(kind) {
+                None => None,
+                Some(kind) => open_kind(layer, kind, place, at, rest),
+            },
+        },
+    }
+}
+
+/// `create L KIND PLACE X0 Y0 X1 Y1 ..`
+pub(crate) fn create_line<'a>(tokens: &[Token<'a>]) -> Option<Statement<'a>>
+    ensures { option_map statement_meaning result ≡ new_layer_line rectangle create_kind (map token_meaning tokens.now) }
 {
     match tokens {
         [
@@ -345,7 +369,22 @@ pub(crate) fn new_layer_line<'a>(request: Request, tokens: &[Token<'a>]) -> Opti
             Token::Name(kind),
             Token::Name(place),
             rest @ ..,
-        ] => named_line(request, *layer, *kind, *place, rest),
+        ] => created(*layer, *kind, *place, rest),
+        _ => None,
+    }
+}
+
+/// `open L KIND PLACE X Y W H ..`
+pub(crate) fn open_line<'a>(tokens: &[Token<'a>]) -> Option<Statement<'a>>
+    ensures { option_map statement_meaning result ≡ new_layer_line box open_kind (map token_meaning tokens.now) }
+{
+    match tokens {
+        [
+            Token::Name(layer),
+            Token::Name(kind),
+            Token::Name(place),
+            rest @ ..,
+        ] => opened(*layer, *kind, *place, rest),
         _ => None,
     }
 }

@@ -1,23 +1,23 @@
 ghost use Rattle.std.specs.Prelude.{◌≡◌, map, option_map};
 ghost use Rattle.lw_grammar.specs.Statements.{last_minterm, blit_end, blit_area, put_line, blit_line};
 ghost use Rattle.lw_words.specs.TokenMeaning.{token_meaning};
-ghost use Rattle.lw_statements.specs.StatementMeaning.{statement_meaning, corners_meaning, area_meaning};
+ghost use Rattle.lw_statements.specs.StatementMeaning.{statement_meaning, box_meaning, area_meaning};
 
-use crate::corners::corners_in;
-use lw_statements::{Act, AskedArea, Corners, Layers, Statement};
+use crate::corners::box_in;
+use lw_statements::{Act, AskedArea, AskedBox, Layers, Statement};
 use lw_words::{Token, digits_in};
 
-/// A blit from this place, with these numbers and this minterm after its names.
-fn asked_area(sx: i64, sy: i64, corners: &Corners, minterm: u8) -> AskedArea
-    ensures { area_meaning result ≡ blit_area sx sy (corners_meaning corners.now) minterm }
+/// A blit from this place to a box, with this minterm.
+fn asked_area(sx: i64, sy: i64, at: &AskedBox, minterm: u8) -> AskedArea
+    ensures { area_meaning result ≡ blit_area sx sy (box_meaning at.now) minterm }
 {
     AskedArea {
         sx,
         sy,
-        x: corners.x0,
-        y: corners.y0,
-        w: corners.x1,
-        h: corners.y1,
+        x: at.x,
+        y: at.y,
+        w: at.w,
+        h: at.h,
         minterm,
     }
 }
@@ -43,14 +43,14 @@ fn last_minterm(tokens: &[Token<'_>]) -> Option<u8>
 }
 
 /// `X Y W H MM` after the names of a blit.
-fn blit_end(tokens: &[Token<'_>]) -> Option<(Corners, u8)>
-    ensures { option_map (λ e. (corners_meaning e.0, e.1)) result ≡ blit_end (map token_meaning tokens.now) }
+fn blit_end(tokens: &[Token<'_>]) -> Option<(AskedBox, u8)>
+    ensures { option_map (λ e. (box_meaning e.0, e.1)) result ≡ blit_end (map token_meaning tokens.now) }
 {
-    match corners_in(tokens) {
+    match box_in(tokens) {
         None => None,
-        Some((corners, rest)) => match last_minterm(rest) {
+        Some((at, rest)) => match last_minterm(rest) {
             None => None,
-            Some(minterm) => Some((corners, minterm)),
+            Some(minterm) => Some((at, minterm)),
         },
     }
 }
@@ -68,8 +68,8 @@ pub(crate) fn put_line<'a>(tokens: &[Token<'a>]) -> Option<Statement<'a>>
             rest @ ..,
         ] => match blit_end(rest) {
             None => None,
-            Some((corners, minterm)) => {
-                let area = asked_area(*sx, *sy, &corners, minterm);
+            Some((at, minterm)) => {
+                let area = asked_area(*sx, *sy, &at, minterm);
                 let bitmap = *bitmap;
                 let act = Act::Put { bitmap, area };
                 let layers = Layers::One(*layer);
@@ -93,8 +93,8 @@ pub(crate) fn blit_line<'a>(tokens: &[Token<'a>]) -> Option<Statement<'a>>
             rest @ ..,
         ] => match blit_end(rest) {
             None => None,
-            Some((corners, minterm)) => {
-                let act = Act::Blit(asked_area(*sx, *sy, &corners, minterm));
+            Some((at, minterm)) => {
+                let act = Act::Blit(asked_area(*sx, *sy, &at, minterm));
                 let layers = Layers::Two(*source, *layer);
                 Some(Statement::Call { layers, act })
             }

@@ -3,14 +3,14 @@ ghost use Rattle.std.specs.Prelude.{◌≡◌, map, option_map};
 ghost use Rattle.lw_grammar.specs.Statements.{inner_kind_of, titled_gzz, opened_gzz, gopen_line, gbox_line, gzz_alone};
 ghost use Rattle.lw_grammar.specs.Statements.{ginfront_line, gzz_line};
 ghost use Rattle.lw_words.specs.TokenMeaning.{token_meaning};
-ghost use Rattle.lw_statements.specs.StatementMeaning.{corners_meaning, gzz_meaning, line_meaning};
+ghost use Rattle.lw_statements.specs.StatementMeaning.{box_meaning, gzz_meaning, line_meaning};
 ghost use Rattle.lw_lines.specs.GzzParts.{opened_with};
 
-use crate::corners::{corners_in, only_corners};
+use crate::corners::{box_in, only_box};
 use crate::lines_asked::{asks_in, place_of};
 use lw_calls::{Kind, Place};
 use lw_grammar::GzzVerb;
-use lw_statements::{Corners, GzzAct, Line};
+use lw_statements::{AskedBox, GzzAct, Line};
 use lw_words::{Token, is_text};
 
 fn inner_kind_of(word: &[u8]) -> Option<Kind>
@@ -31,12 +31,12 @@ fn titled<'a>(
     inner: &'a [u8],
     kind: Kind,
     place: Place,
-    numbers: Corners,
+    at: AskedBox,
     classes: u8,
     tokens: &[Token<'a>],
 ) -> Option<Line<'a>>
     ensures { option_map line_meaning result
-        ≡ titled_gzz outer.now inner.now kind place (corners_meaning numbers) classes (map token_meaning tokens.now) }
+        ≡ titled_gzz outer.now inner.now kind place (box_meaning at) classes (map token_meaning tokens.now) }
 {
     match tokens {
         [Token::Text(title)] => {
@@ -47,7 +47,7 @@ fn titled<'a>(
                     inner,
                     kind,
                     place,
-                    numbers,
+                    at,
                     classes,
                     title,
                 },
@@ -57,20 +57,20 @@ fn titled<'a>(
     }
 }
 
-/// What stands after the four numbers of an opening: `[ask SET] "TITLE"`
+/// What stands after the box of an opening: `[ask SET] "TITLE"`
 fn opened<'a>(
     outer: &'a [u8],
     inner: &'a [u8],
     kind: Kind,
     place: Place,
-    numbers: Corners,
+    at: AskedBox,
     tokens: &[Token<'a>],
 ) -> Option<Line<'a>>
     ensures { option_map line_meaning result
-        ≡ opened_gzz outer.now inner.now place (corners_meaning numbers) (map token_meaning tokens.now) kind }
+        ≡ opened_gzz outer.now inner.now place (box_meaning at) (map token_meaning tokens.now) kind }
 {
     let (classes, rest) = asks_in(tokens);
-    titled(outer, inner, kind, place, numbers, classes, rest)
+    titled(outer, inner, kind, place, at, classes, rest)
 }
 
 /// What stands after the four names of an opening.
@@ -84,13 +84,13 @@ fn named<'a>(
     ensures { option_map line_meaning result
         ≡ opened_with outer.now inner.now kind.now place.now (map token_meaning tokens.now) }
 {
-    match corners_in(tokens) {
+    match box_in(tokens) {
         None => None,
-        Some((numbers, rest)) => match place_of(place) {
+        Some((at, rest)) => match place_of(place) {
             None => None,
             Some(place) => match inner_kind_of(kind) {
                 None => None,
-                Some(kind) => opened(outer, inner, kind, place, numbers, rest),
+                Some(kind) => opened(outer, inner, kind, place, at, rest),
             },
         },
     }
@@ -117,11 +117,11 @@ fn gbox_line<'a>(tokens: &[Token<'a>]) -> Option<Line<'a>>
     ensures { option_map line_meaning result ≡ gbox_line (map token_meaning tokens.now) }
 {
     match tokens {
-        [Token::Name(outer), rest @ ..] => match only_corners(rest) {
+        [Token::Name(outer), rest @ ..] => match only_box(rest) {
             None => None,
-            Some(numbers) => Some(Line::Gzz {
+            Some(at) => Some(Line::Gzz {
                 outer: *outer,
-                act: GzzAct::Box(numbers),
+                act: GzzAct::Box(at),
             }),
         },
         _ => None,

@@ -1,11 +1,11 @@
 ghost use Rattle.std.specs.Prelude.{◌≡◌, map, option_map};
 ghost use Rattle.lw_grammar.specs.Statements.{layer_line, number_line, pair_line, text_line, rect_line, region_line};
 ghost use Rattle.lw_grammar.specs.Statements.{clear_line, which_line, infront_line, four_line, scrollraster_line};
-ghost use Rattle.lw_grammar.specs.Statements.{endrefresh_line, BoxAct, FillAct, bounds};
+ghost use Rattle.lw_grammar.specs.Statements.{endrefresh_line, BoxAct, FillAct, box, rectangle};
 ghost use Rattle.lw_words.specs.TokenMeaning.{token_meaning};
 ghost use Rattle.lw_statements.specs.StatementMeaning.{statement_meaning};
 
-use crate::corners::only_corners;
+use crate::corners::{only_box, only_corners};
 use lw_calls::{PairOp, RectOp};
 use lw_grammar::{BareVerb, NumberVerb, PairVerb, TextVerb};
 use lw_statements::{Act, Layers, Statement};
@@ -132,12 +132,13 @@ pub(crate) fn infront_line<'a>(tokens: &[Token<'a>]) -> Option<Statement<'a>>
 
 /// `box L X Y W H`
 pub(crate) fn box_line<'a>(tokens: &[Token<'a>]) -> Option<Statement<'a>>
-    ensures { option_map statement_meaning result ≡ four_line (λ n. BoxAct n) (map token_meaning tokens.now) }
+    ensures { option_map statement_meaning result ≡ four_line (λ x y w h. BoxAct (box x y w h))
+        (map token_meaning tokens.now) }
 {
     match tokens {
-        [Token::Name(layer), rest @ ..] => match only_corners(rest) {
+        [Token::Name(layer), rest @ ..] => match only_box(rest) {
             None => None,
-            Some(corners) => Some(Statement::on(*layer, Act::Box(corners))),
+            Some(at) => Some(Statement::on(*layer, Act::Box(at))),
         },
         _ => None,
     }
@@ -145,7 +146,8 @@ pub(crate) fn box_line<'a>(tokens: &[Token<'a>]) -> Option<Statement<'a>>
 
 /// `fill L X0 Y0 X1 Y1`
 pub(crate) fn fill_line<'a>(tokens: &[Token<'a>]) -> Option<Statement<'a>>
-    ensures { option_map statement_meaning result ≡ four_line (λ n. FillAct (bounds n)) (map token_meaning tokens.now) }
+    ensures { option_map statement_meaning result ≡ four_line (λ x0 y0 x1 y1. FillAct (rectangle x0 y0 x1 y1))
+        (map token_meaning tokens.now) }
 {
     match tokens {
         [Token::Name(layer), rest @ ..] => match only_corners(rest) {

@@ -4,7 +4,7 @@ ghost use Rattle.lw_words.specs.TokenMeaning.{token_meaning};
 ghost use Rattle.lw_statements.specs.StatementMeaning.{statement_meaning, line_meaning};
 
 use crate::lines_area::{area_line, area_pattern_line};
-use crate::lines_asked::{Request, new_layer_line};
+use crate::lines_asked::{create_line, open_line};
 use crate::lines_blit::{blit_line, put_line};
 use crate::lines_gzz::gzz_line;
 use crate::lines_layer::{
@@ -63,8 +63,8 @@ fn statement_by<'a>(
         Verb::Rect(op) => Ok(rect_line(op, tokens)),
         Verb::Region(op) => Ok(region_line(op, tokens)),
         Verb::ClearRegion => Ok(clear_line(tokens)),
-        Verb::Create => Ok(new_layer_line(Request::Creation, tokens)),
-        Verb::Open => Ok(new_layer_line(Request::Opening, tokens)),
+        Verb::Create => Ok(create_line(tokens)),
+        Verb::Open => Ok(open_line(tokens)),
         Verb::InFront => Ok(infront_line(tokens)),
         Verb::Box => Ok(box_line(tokens)),
         Verb::Which => Ok(which_line(tokens)),

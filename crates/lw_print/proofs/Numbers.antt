@@ -2,7 +2,6 @@
 use Rattle.std.proofs.Common.{◌≡◌, ◌∙◌, sym, ap, ℕ, List, [], ◌∷◌, ◌++◌, append-nil, arith, ℤ, pos, ◌+ℤ◌, ◌-ℤ◌, to_z, of_z, w32, FitsSigned}
 use Rattle.std.proofs.lemmas.Int.{ints}
 use Rattle.std.specs.Fmt.{signed_decimal}
-use Rattle.lw_grammar.specs.Statements.{four}
 use Rattle.lw_calls.specs.Written.{spaced_signed}
 use Rattle.lw_canonical.specs.Spelling.{four_words}
 use Rattle.lw_print.specs.Behind.{behind}
@@ -16,7 +15,7 @@ pub pair_written : (x y a b : ℤ) (start p : List ℕ) → x ≡ a → y ≡ b 
 pair_written x y a b start p e f h = rw (← e, ← f) h
 
 -- four numbers
-pub four_written : (x y w h a b c d : ℤ) (start p : List ℕ) → x ≡ a → y ≡ b → w ≡ c → h ≡ d → p ≡ start ++ behind (four_words (four x y w h)) → p ≡ start ++ behind (four_words (four a b c d))
+pub four_written : (x y w h a b c d : ℤ) (start p : List ℕ) → x ≡ a → y ≡ b → w ≡ c → h ≡ d → p ≡ start ++ behind (four_words x y w h) → p ≡ start ++ behind (four_words a b c d)
 four_written x y w h a b c d start p e f g i k = rw (← e, ← f, ← g, ← i) k
 
 -- the last number of a span

@@ -3,7 +3,6 @@
 ghost use Rattle.std.specs.Prelude.{◌≡◌, ◌++◌, ◌∷◌, [], List, ℕ, OnOk, IsTrue};
 ghost use Rattle.std.specs.Fmt.{signed_decimal};
 ghost use Rattle.lw_canonical.specs.Canonical.{line_of_call};
-ghost use Rattle.lw_grammar.specs.Statements.{four};
 ghost use Rattle.lw_calls.specs.Written.{line_of, hex_byte};
 ghost use Rattle.lw_canonical.specs.Spelling.{spelled, four_words};
 ghost use Rattle.lw_print.specs.Behind.{behind, rest_of_call};

@@ -2,10 +2,10 @@
 
 ghost use Rattle.std.specs.Prelude.{codes, ◌≡◌, ◌++◌, ◌∷◌, [], OnOk, pos, ◌+ℤ◌, ◌-ℤ◌};
 ghost use Rattle.std.specs.Fmt.{signed_decimal};
-ghost use Rattle.lw_canonical.specs.Canonical.{created_layer, opened_layer};
+ghost use Rattle.lw_canonical.specs.Canonical.{new_layer_of, created_bounds, opened_box};
 ghost use Rattle.lw_calls.specs.Written.{spaced_signed};
-ghost use Rattle.lw_canonical.specs.Spelling.{kind_word, place_word, four_words, flag_words, hook_words, class_letter};
-ghost use Rattle.lw_canonical.specs.Spelling.{set_word, ask_words, created_words, opened_words_without_bitmap, opened_words};
+ghost use Rattle.lw_canonical.specs.Spelling.{kind_word, place_word, bounds_words, box_words, flag_words, hook_words};
+ghost use Rattle.lw_canonical.specs.Spelling.{class_letter, set_word, ask_words, created_words, opened_words_without_bitmap, opened_words};
 ghost use Rattle.lw_print.specs.Behind.{behind};
 
 use crate::words::{push_flag, push_four, push_hook, push_pair};
@@ -16,8 +16,8 @@ use std::alloc::{AllocError, Global};
 /// Writes what a creation asks for: its kind and place, its bounds and its options.
 pub fn push_created(alloc: Global, out: &mut Vec<u8>, make: &Make) -> Result<(), AllocError>
     ensures { OnOk result (out.new.items ≡ out.old.items
-        ++ behind (kind_word make.now.kind ∷ place_word make.now.place ∷ four_words (created_layer make.now).numbers
-        ++ created_words make.now.kind (created_layer make.now))) }
+        ++ behind (kind_word make.now.kind ∷ place_word make.now.place ∷ bounds_words (created_bounds make.now)
+        ++ created_words make.now.kind (new_layer_of make.now))) }
 {
     push_kind_and_place(out, make.kind, make.place)?;
     push_created_bounds(alloc, out, make)?;
@@ -55,7 +55,7 @@ fn place_word(place: Place) -> &'static str
 
 /// Writes the bounds of a layer that is created.
 fn push_created_bounds(alloc: Global, out: &mut Vec<u8>, make: &Make) -> Result<(), AllocError>
-    ensures { OnOk result (out.new.items ≡ out.old.items ++ behind (four_words (created_layer make.now).numbers)) }
+    ensures { OnOk result (out.new.items ≡ out.old.items ++ behind (bounds_words (created_bounds make.now))) }
 {
     push_pair(alloc, out, make.x, make.y)?;
     push_last_corner(alloc, out, make)
@@ -80,7 +80,7 @@ fn push_last(alloc: Global, out: &mut Vec<u8>, first: i32, count: i32) -> Result
 
 /// Writes the options of a layer that is created.
 fn push_created_options(alloc: Global, out: &mut Vec<u8>, make: &Make) -> Result<(), AllocError>
-    ensures { OnOk result (out.new.items ≡ out.old.items ++ behind (created_words make.now.kind (created_layer make.now))) }
+    ensures { OnOk result (out.new.items ≡ out.old.items ++ behind (created_words make.now.kind (new_layer_of make.now))) }
 {
     match make.kind {
         Kind::SuperBitmap => {
@@ -120,8 +120,8 @@ pub fn push_opened(
     asks: u8,
 ) -> Result<(), AllocError>
     ensures { OnOk result (out.new.items ≡ out.old.items
-        ++ behind (kind_word make.now.kind ∷ place_word make.now.place ∷ four_words (opened_layer make.now).numbers
-        ++ opened_words make.now.kind (opened_layer make.now) framed nocare asks)) }
+        ++ behind (kind_word make.now.kind ∷ place_word make.now.place ∷ box_words (opened_box make.now)
+        ++ opened_words make.now.kind (new_layer_of make.now) framed nocare asks)) }
 {
     push_kind_and_place(out, make.kind, make.place)?;
     push_place_and_size(alloc, out, make)?;
@@ -130,7 +130,7 @@ pub fn push_opened(
 
 /// Writes the place of a window on the screen and its size.
 fn push_place_and_size(alloc: Global, out: &mut Vec<u8>, make: &Make) -> Result<(), AllocError>
-    ensures { OnOk result (out.new.items ≡ out.old.items ++ behind (four_words (opened_layer make.now).numbers)) }
+    ensures { OnOk result (out.new.items ≡ out.old.items ++ behind (box_words (opened_box make.now))) }
 {
     push_four(alloc, out, make.x, make.y, make.w, make.h)
 }
@@ -145,7 +145,7 @@ fn push_opened_options(
     asks: u8,
 ) -> Result<(), AllocError>
     ensures { OnOk result (out.new.items ≡ out.old.items
-        ++ behind (opened_words make.now.kind (opened_layer make.now) framed nocare asks)) }
+        ++ behind (opened_words make.now.kind (new_layer_of make.now) framed nocare asks)) }
 {
     match make.kind {
         Kind::SuperBitmap => {
@@ -169,7 +169,7 @@ fn push_options_without_bitmap(
     asks: u8,
 ) -> Result<(), AllocError>
     ensures { OnOk result (out.new.items
-        ≡ out.old.items ++ behind (opened_words_without_bitmap (opened_layer make.now) framed nocare asks)) }
+        ≡ out.old.items ++ behind (opened_words_without_bitmap (new_layer_of make.now) framed nocare asks)) }
 {
     push_backdrop(out, make)?;
     push_flag(out, b"borderless", !framed)?;

@@ -2,7 +2,6 @@
 
 ghost use Rattle.std.specs.Prelude.{◌≡◌, ◌++◌, ◌∷◌, [], OnOk, option_map, pos};
 ghost use Rattle.std.specs.Fmt.{signed_decimal};
-ghost use Rattle.lw_grammar.specs.Statements.{four};
 ghost use Rattle.lw_calls.specs.Written.{spaced_signed, hex_byte};
 ghost use Rattle.lw_canonical.specs.Spelling.{four_words, flag_words, hook_words, text_word};
 ghost use Rattle.lw_print.specs.Behind.{behind};
@@ -34,7 +33,7 @@ pub fn push_four(
     w: i32,
     h: i32,
 ) -> Result<(), AllocError>
-    ensures { OnOk result (out.new.items ≡ out.old.items ++ behind (four_words (four x y w h))) }
+    ensures { OnOk result (out.new.items ≡ out.old.items ++ behind (four_words x y w h)) }
 {
     push_pair(alloc, out, x, y)?;
     push_pair(alloc, out, w, h)

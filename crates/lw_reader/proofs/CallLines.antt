@@ -47,25 +47,25 @@ call_spelled b names (l ∷ m ∷ []) act e = ap (spelled_call b act) (sym (plac
 call_spelled b names (l ∷ m ∷ k ∷ ls) act e = absurd (omega (arith, e, at_most_two act))
 
 -- the groups, where a call ends one or not
-pub groups_with : (above : List Statement) (ls : List (List ℕ)) (act : Act) → length ls ≡ layers_of act → (told (CallLine ls act ∷ above)).groups ≡ cond (is_ending act) (onto_last (record { first = (told above).began; last = (told above).so_far; hold = Slot (first_place (told above).names ls) }) (told above).groups) (told above).groups
+pub groups_with : (above : List Statement) (ls : List (List ℕ)) (act : Act) → length ls ≡ layers_of act → (told (CallLine ls act ∷ above)).groups ≡ cond (is_ending act) (onto_last (record { first = (told above).calls_before_group; last = (told above).calls_in_task; hold = Slot (first_place (told above).names ls) }) (told above).groups) (told above).groups
 groups_with above [] (EndRefreshAct full) e = absurd (omega (arith, e))
 groups_with above (l ∷ []) (EndRefreshAct full) e =
-    let n : ((told above).so_far + 1) - 1 ≡ (told above).so_far = omega arith in
-    ap (λ last. onto_last (record { first = (told above).began; last = last; hold = Slot (place_among (told above).names l) }) (told above).groups) n
+    let n : ((told above).calls_in_task + 1) - 1 ≡ (told above).calls_in_task = omega arith in
+    ap (λ last. onto_last (record { first = (told above).calls_before_group; last = last; hold = Slot (place_among (told above).names l) }) (told above).groups) n
 groups_with above (l ∷ m ∷ ls) (EndRefreshAct full) e = absurd (omega (arith, e))
 groups_with above ls act e = refl
 
 -- a hook's number is in its range where the act's numbers are
 pub hook_fits : (ls : List (List ℕ)) (act : Act) → IsTrue (is_act_in_range act) → IsTrue (is_hook_number (hook_on (CallLine ls act)))
-hook_fits ls (CreateAct asked) h = (and_parts _ _ (and_parts _ _ h).1).0
-hook_fits ls (OpenAct asked framed nocare classes title) h = (and_parts _ _ (and_parts _ _ h).1).0
+hook_fits ls (CreateAct rect asked) h = (and_parts _ _ (and_parts _ _ h).1).0
+hook_fits ls (OpenAct at asked framed nocare classes title) h = (and_parts _ _ (and_parts _ _ h).1).0
 hook_fits ls (NumberAct HookVerb z) h = h
 hook_fits ls act h = refl
 
 -- the groups that are kept
-pub groups_kept : (above : List Statement) (ls : List (List ℕ)) (act : Act) (began so_far s : ℕ) (old new : List (List Group)) → length ls ≡ layers_of act → old ≡ (told above).groups → began ≡ (told above).began → so_far ≡ (told above).so_far → s ≡ first_place (told above).names ls → new ≡ cond (is_ending act) (onto_last (record { first = began; last = so_far; hold = Slot s }) old) old → new ≡ (told (CallLine ls act ∷ above)).groups
-groups_kept above ls act began so_far s old new m e f g h k =
-    let same : cond (is_ending act) (onto_last (record { first = began; last = so_far; hold = Slot s }) old) old ≡ cond (is_ending act) (onto_last (record { first = (told above).began; last = (told above).so_far; hold = Slot (first_place (told above).names ls) }) (told above).groups) (told above).groups = rw (e, f, g, h) refl in
+pub groups_kept : (above : List Statement) (ls : List (List ℕ)) (act : Act) (calls_before_group calls_in_task s : ℕ) (old new : List (List Group)) → length ls ≡ layers_of act → old ≡ (told above).groups → calls_before_group ≡ (told above).calls_before_group → calls_in_task ≡ (told above).calls_in_task → s ≡ first_place (told above).names ls → new ≡ cond (is_ending act) (onto_last (record { first = calls_before_group; last = calls_in_task; hold = Slot s }) old) old → new ≡ (told (CallLine ls act ∷ above)).groups
+groups_kept above ls act calls_before_group calls_in_task s old new m e f g h k =
+    let same : cond (is_ending act) (onto_last (record { first = calls_before_group; last = calls_in_task; hold = Slot s }) old) old ≡ cond (is_ending act) (onto_last (record { first = (told above).calls_before_group; last = (told above).calls_in_task; hold = Slot (first_place (told above).names ls) }) (told above).groups) (told above).groups = rw (e, f, g, h) refl in
     k ∙ same ∙ sym (groups_with above ls act m)
 
 -- the number of the bitmap that an act names, or 0, is its place

@@ -25,7 +25,7 @@ known r =
       section = section_meaning r.section;
       width = r.width;
       height = r.height;
-      given = λ code. get_or r.assets.given code false;
+      glyph_codes = λ code. get_or r.assets.glyph_codes code false;
       bitmap_names = targets r.assets.names.keys;
       row_width = r.assets.width;
       rows_due = r.assets.due;
@@ -33,13 +33,13 @@ known r =
       patterns = r.assets.patterns.items;
       tasks = targets r.tasks.task_names.keys;
       names = targets r.tasks.layer_names.keys;
-      seen = targets r.tasks.seen.keys;
+      names_without_slot = targets r.tasks.names_without_slot.keys;
       pairs = map pair_meaning r.tasks.pairs.items;
       supers = r.tasks.supers;
-      used = λ n. list_any (λ m. n == m) r.tasks.used.keys;
+      hooks_named = λ n. list_any (λ m. n == m) r.tasks.hooks_named.keys;
       group = option_map group_meaning r.tasks.group;
-      began = r.tasks.began;
-      so_far = r.tasks.so_far;
+      calls_before_group = r.tasks.calls_before_group;
+      calls_in_task = r.tasks.calls_in_task;
     }
 
 -- what it reads a script with

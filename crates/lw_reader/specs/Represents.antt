@@ -28,7 +28,7 @@ pub record IsBitmapBegun (a : AssetsRead) : Type 0 where
 
 -- glyphs, bitmaps and patterns
 pub record AssetsRepresent (a : AssetsRead) (above : List Statement) : Type 0 where
-  pub given : (code : ℕ) → get_or a.given code false ≡ (told above).given code
+  pub glyph_codes : (code : ℕ) → get_or a.glyph_codes code false ≡ (told above).glyph_codes code
   pub glyphs : (i : ℕ) → i < 95 → get_or a.glyphs i [] ≡ (told above).glyphs (32 + i)
   pub names : targets a.names.keys ≡ (told above).bitmap_names
   pub width : a.width ≡ (told above).row_width
@@ -43,13 +43,13 @@ pub record AssetsRepresent (a : AssetsRead) (above : List Statement) : Type 0 wh
 pub record TasksRepresent (t : TasksRead) (above : List Statement) : Type 0 where
   pub tasks : targets t.task_names.keys ≡ (told above).tasks
   pub names : targets t.layer_names.keys ≡ (told above).names
-  pub seen : targets t.seen.keys ≡ (told above).seen
+  pub names_without_slot : targets t.names_without_slot.keys ≡ (told above).names_without_slot
   pub pairs : map pair_meaning t.pairs.items ≡ (told above).pairs
   pub supers : t.supers ≡ (told above).supers
-  pub used : (n : ℕ) → list_any (λ m. n == m) t.used.keys ≡ (told above).used n
+  pub hooks_named : (n : ℕ) → list_any (λ m. n == m) t.hooks_named.keys ≡ (told above).hooks_named n
   pub group : option_map group_meaning t.group ≡ (told above).group
-  pub began : t.began ≡ (told above).began
-  pub so_far : t.so_far ≡ (told above).so_far
+  pub calls_before_group : t.calls_before_group ≡ (told above).calls_before_group
+  pub calls_in_task : t.calls_in_task ≡ (told above).calls_in_task
   pub calls : map (λ cs. cs.items) t.calls.items ≡ (told above).calls
   pub groups : map (λ gs. gs.items) t.groups.items ≡ (told above).groups
 

@@ -16,7 +16,7 @@ use std::alloc::Global;
 #[derive(Drop)]
 pub struct AssetsRead<'a> {
     /// Which codes have a glyph.
-    pub given: [bool; 256],
+    pub glyph_codes: [bool; 256],
     pub glyphs: [[u8; 8]; 95],
     /// The bitmaps' names, by number.
     pub names: IndexSet<&'a [u8]>,
@@ -48,19 +48,19 @@ pub struct TasksRead<'a> {
     pub task_names: IndexSet<&'a [u8]>,
     pub layer_names: IndexSet<&'a [u8]>,
     /// The names that stand on a line without a call.
-    pub seen: IndexSet<&'a [u8]>,
+    pub names_without_slot: IndexSet<&'a [u8]>,
     /// The windows of two layers.
     pub pairs: Vec<NamedPair<'a>>,
     /// How many lines asked for a super-bitmap layer.
     pub supers: u32,
     /// The hooks that lines named.
-    pub used: IndexSet<u32>,
+    pub hooks_named: IndexSet<u32>,
     /// The group that is open.
     pub group: Option<OpenGroup<'a>>,
     /// How many calls the task had before the group began.
-    pub began: u32,
+    pub calls_before_group: u32,
     /// How many calls the task has.
-    pub so_far: u32,
+    pub calls_in_task: u32,
     /// Each task's calls and groups.
     pub calls: Vec<Vec<Call>>,
     pub groups: Vec<Vec<Group>>,
@@ -101,7 +101,7 @@ impl<'a> Reader<'a> {
             height: 0,
             depth: 0,
             assets: AssetsRead {
-                given: [false; 256],
+                glyph_codes: [false; 256],
                 glyphs: [[0; 8]; 95],
                 names: IndexSet::new(alloc),
                 bitmaps: Vec::new(alloc),
@@ -116,13 +116,13 @@ impl<'a> Reader<'a> {
             tasks: TasksRead {
                 task_names: IndexSet::new(alloc),
                 layer_names: IndexSet::new(alloc),
-                seen: IndexSet::new(alloc),
+                names_without_slot: IndexSet::new(alloc),
                 pairs: Vec::new(alloc),
                 supers: 0,
-                used: IndexSet::new(alloc),
+                hooks_named: IndexSet::new(alloc),
                 group: None,
-                began: 0,
-                so_far: 0,
+                calls_before_group: 0,
+                calls_in_task: 0,
                 calls: Vec::new(alloc),
                 groups: Vec::new(alloc),
             },

@@ -66,12 +66,13 @@ fn slots_of<'a>(
 }
 
 /// Notes the hook that a line names.
-fn note_hook(used: &mut IndexSet<u32>, number: Option<i64>) -> Result<(), AllocError>
+fn note_hook(hooks_named: &mut IndexSet<u32>, number: Option<i64>) -> Result<(), AllocError>
     requires { IsTrue (is_hook_number number) }
-    ensures { (named : ℕ → Bool) → AreNoted used.old.keys named → OnOk result (AreNoted used.new.keys (and_hook number named)) }
+    ensures { (named : ℕ → Bool) → AreNoted hooks_named.old.keys named
+        → OnOk result (AreNoted hooks_named.new.keys (and_hook number named)) }
 {
     if let Some(number) = number {
-        used.insert(count(number))?;
+        hooks_named.insert(count(number))?;
     }
     Ok(())
 }
@@ -117,13 +118,14 @@ fn group_below<'a>(
 }
 
 /// How many calls a task had when the group began that is open below a call.
-fn began_below(began: u32, so_far: u32, act: &Act<'_>) -> u32
-    ensures { (above : List StatementValue) → began ≡ (told above).began → so_far ≡ (told above).so_far
-        → (layers : List (List ℕ)) → result ≡ (told (CallLine layers (act_meaning act.now) ∷ above)).began }
+fn began_below(calls_before_group: u32, calls_in_task: u32, act: &Act<'_>) -> u32
+    ensures { (above : List StatementValue) → calls_before_group ≡ (told above).calls_before_group
+        → calls_in_task ≡ (told above).calls_in_task
+        → (layers : List (List ℕ)) → result ≡ (told (CallLine layers (act_meaning act.now) ∷ above)).calls_before_group }
 {
     match act {
-        Act::Bare(BareVerb::Refresh) => so_far,
-        _ => began,
+        Act::Bare(BareVerb::Refresh) => calls_in_task,
+        _ => calls_before_group,
     }
 }
 
@@ -137,7 +139,7 @@ impl<'a> TasksRead<'a> {
         self.task_names.insert(name)?;
         self.calls.push(Vec::new(alloc))?;
         self.groups.push(Vec::new(alloc))?;
-        self.so_far = 0;
+        self.calls_in_task = 0;
         Ok(())
     }
 
@@ -149,7 +151,7 @@ impl<'a> TasksRead<'a> {
     {
         numbered(&mut self.layer_names, name)?;
         self.group = Some(OpenGroup::Locked(name));
-        self.began = self.so_far;
+        self.calls_before_group = self.calls_in_task;
         Ok(())
     }
 
@@ -158,20 +160,20 @@ impl<'a> TasksRead<'a> {
         ensures { (above : List StatementValue) → TasksRepresent self.old above → TasksRepresent self.new (HoldLine ∷ above) }
     {
         self.group = Some(OpenGroup::Held);
-        self.began = self.so_far;
+        self.calls_before_group = self.calls_in_task;
     }
 
     /// Ends a lock on a layer, which has calls.
     pub fn add_unlock(&mut self, name: &'a [u8]) -> Result<(), AllocError>
         requires few { length self.old.layer_names.keys < 4294967294 }
-        requires some { 0 < self.old.so_far }
+        requires some { 0 < self.old.calls_in_task }
         ensures { (above : List StatementValue) → TasksRepresent self.old above
             → OnOk result (TasksRepresent self.new (UnlockLine name.entry.now ∷ above)) }
     {
         let slot = numbered(&mut self.layer_names, name)?;
         let group = Group {
-            first: self.began,
-            last: self.so_far - 1,
+            first: self.calls_before_group,
+            last: self.calls_in_task - 1,
             hold: Hold::Slot(slot),
         };
         put_last(&mut self.groups, group)?;
@@ -181,13 +183,13 @@ impl<'a> TasksRead<'a> {
 
     /// Ends a hold, which has calls.
     pub fn add_release(&mut self) -> Result<(), AllocError>
-        requires some { 0 < self.old.so_far }
+        requires some { 0 < self.old.calls_in_task }
         ensures { (above : List StatementValue) → TasksRepresent self.old above
             → OnOk result (TasksRepresent self.new (ReleaseLine ∷ above)) }
     {
         let group = Group {
-            first: self.began,
-            last: self.so_far - 1,
+            first: self.calls_before_group,
+            last: self.calls_in_task - 1,
             hold: Hold::All,
         };
         put_last(&mut self.groups, group)?;
@@ -200,7 +202,7 @@ impl<'a> TasksRead<'a> {
         ensures { (above : List StatementValue) → TasksRepresent self.old above
             → OnOk result (TasksRepresent self.new (NameSeen name.entry.now ∷ above)) }
     {
-        self.seen.insert(name)?;
+        self.names_without_slot.insert(name)?;
         Ok(())
     }
 
@@ -224,7 +226,7 @@ impl<'a> TasksRead<'a> {
         requires range { IsTrue (is_act_in_range (act_meaning act.now)) }
         requires made { length (layers_meaning layers) ≡ layers_of (act_meaning act.now) }
         requires few { length self.old.layer_names.keys < 4294967294 }
-        requires room { self.old.so_far < 4294967295 }
+        requires room { self.old.calls_in_task < 4294967295 }
         requires supers { self.old.supers ≤ 16 }
         ensures { (above : List StatementValue) → IsBitmapAt (told above).bitmap_names bitmap (act_meaning act.now)
             → TasksRepresent self.old above
@@ -232,18 +234,18 @@ impl<'a> TasksRead<'a> {
     {
         let (slot, other) = slots_of(&mut self.layer_names, layers)?;
         let call = act.call(alloc, bitmap, slot, other)?;
-        note_hook(&mut self.used, act.hook())?;
+        note_hook(&mut self.hooks_named, act.hook())?;
         self.supers = supers_with(self.supers, act);
         let group = Group {
-            first: self.began,
-            last: self.so_far,
+            first: self.calls_before_group,
+            last: self.calls_in_task,
             hold: Hold::Slot(slot),
         };
         end_update(&mut self.groups, act, group)?;
         self.group = group_below(self.group, layers, act);
-        self.began = began_below(self.began, self.so_far, act);
+        self.calls_before_group = began_below(self.calls_before_group, self.calls_in_task, act);
         put_last(&mut self.calls, call)?;
-        self.so_far += 1;
+        self.calls_in_task += 1;
         Ok(())
     }
 }

@@ -1,11 +1,10 @@
 -- What reading a script answers, given that it gives the outcome of its bytes.
-use Rattle.std.proofs.Common.{◌≡◌, ℕ, min, length, List, Result, Ok, Err, IfOk, sym, ap, subst, ◌∙◌}
+use Rattle.std.proofs.Common.{◌≡◌, ℕ, List, Result, Ok, Err, IfOk, sym, ap, subst, ◌∙◌}
 use Rattle.lw_grammar.specs.declared.reason.Reason.{Reason}
-use Rattle.lw_grammar.specs.Demands.{◌>>=◌}
 use Rattle.lw_grammar.specs.Lines.{lines}
-use Rattle.lw_grammar.specs.Told.{told}
-use Rattle.lw_grammar.specs.Script.{Setting, ScriptInput, input_from, outcome_of, SpellsInput, IsFirstBadIn, IsRunnableInput}
-use Rattle.lw_grammar.proofs.ScriptOutcome.{refused_outcome}
+use Rattle.lw_grammar.specs.Script.{Setting, ScriptInput, outcome_of, SpellsInput, IsFirstBadIn}
+use Rattle.lw_grammar.specs.Laws.{IsRunnableInput}
+use Rattle.lw_grammar.proofs.ScriptOutcome.{refused_outcome, outcome_refused}
 use Rattle.lw_grammar.proofs.ScriptRunnable.{spelled_runnable}
 use Rattle.lw_script.specs.declared.input.Input.{Input}
 use Rattle.lw_script.specs.declared.input.ScriptStop.{ScriptStop}
@@ -38,17 +37,16 @@ only_read s bytes (Err (Refused line reason)) g input k =
     let both : Err (line, reason) ≡ Ok input = sym g ∙ k in absurd (cc)
 only_read s bytes (Err Memory) g input k = tt
 
+-- a refusal that is the outcome is answered
+refused_at : (s : Setting) (bytes : List ℕ) (r : Result Input ScriptStop) → Gives r (outcome_of s bytes) → (line : ℕ) (reason : Reason) → outcome_of s bytes ≡ Err (line, reason) → RefusesAt line reason r
+refused_at s bytes (Ok input) g line reason e =
+    let both : Ok (input_meaning input) ≡ Err (line, reason) = sym g ∙ e in absurd (cc)
+refused_at s bytes (Err (Refused n why)) g line reason e =
+    let both : Err (n, why) ≡ Err (line, reason) = sym g ∙ e in
+    let same : (n, why) ≡ (line, reason) = cc in
+    (ap (λ (p : ℕ × Reason). p.0) same, ap (λ (p : ℕ × Reason). p.1) same)
+refused_at s bytes (Err Memory) g line reason e = tt
+
 -- bytes with a first bad line are refused at it
 pub only_refused : (s : Setting) (bytes : List ℕ) (r : Result Input ScriptStop) → Gives r (outcome_of s bytes) → (line : ℕ) (reason : Reason) → IsFirstBadIn s (lines bytes) line reason → RefusesAt line reason r
-only_refused s bytes r g line reason b = go r g
-  where
-    e : outcome_of s bytes ≡ Err (line, reason)
-    e = ap (λ o. o >>= (λ p. Ok (input_from s (told p.statements) (min (length bytes) p.place)))) b
-
-    go : (r : Result Input ScriptStop) → Gives r (outcome_of s bytes) → RefusesAt line reason r
-    go (Ok input) g = let both : Ok (input_meaning input) ≡ Err (line, reason) = sym g ∙ e in absurd (cc)
-    go (Err (Refused n why)) g =
-        let both : Err (n, why) ≡ Err (line, reason) = sym g ∙ e in
-        let same : (n, why) ≡ (line, reason) = cc in
-        (ap (λ (p : ℕ × Reason). p.0) same, ap (λ (p : ℕ × Reason). p.1) same)
-    go (Err Memory) g = tt
+only_refused s bytes r g line reason b = refused_at s bytes r g line reason (outcome_refused s bytes line reason b)

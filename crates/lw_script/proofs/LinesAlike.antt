@@ -26,7 +26,7 @@ record AreCountedAlike (t u : Told) : Type 0 where
   patterns : t.pattern_names ≡ u.pattern_names
   names : t.names ≡ u.names
   supers : t.supers ≡ u.supers
-  calls : t.so_far ≡ u.so_far
+  calls : t.calls_in_task ≡ u.calls_in_task
 
 -- so do those with a further statement, and with several
 alike_with : (f : Statement) (t u : Told) → AreCountedAlike t u → AreCountedAlike (told_with f t) (told_with f u)
@@ -55,7 +55,7 @@ alike_with f t u k =
     supers_are (CallLine layers act) = ap (λ n. cond (makes_super (CallLine layers act)) 1 0 + n) k.supers
     supers_are f = k.supers
 
-    calls_are : (f : Statement) → (told_with f t).so_far ≡ (told_with f u).so_far
+    calls_are : (f : Statement) → (told_with f t).calls_in_task ≡ (told_with f u).calls_in_task
     calls_are (TaskLine n) = refl
     calls_are (CallLine layers act) = ap (λ n. n + 1) k.calls
     calls_are f = k.calls
@@ -72,16 +72,16 @@ few_alike m n t u e k = rw (e, k.tasks, k.bitmaps, k.patterns, k.names, k.supers
 module _ (s : Setting) (r : Reader) (above : List Statement) (k : Represents s r above) where
   -- a line that gives something again
   again : (f : Statement) → gives_again (known r) f ≡ gives_again (told above) f
-  again (GlyphLine code rows) = k.assets.given code
+  again (GlyphLine code rows) = k.assets.glyph_codes code
   again (BitmapLine name w h d) = rw k.assets.names refl
   again (PatternLine name words) = rw k.assets.pattern_names refl
   again (TaskLine name) = rw k.tasks.tasks refl
   again f = refl
 
   -- a hook that is used
-  used : (o : Option ℤ) → is_used (known r).used o ≡ is_used (told above).used o
-  used None = refl
-  used (Some n) = k.tasks.used (unsigned_abs n)
+  hooks_named : (o : Option ℤ) → is_used (known r).hooks_named o ≡ is_used (told above).hooks_named o
+  hooks_named None = refl
+  hooks_named (Some n) = k.tasks.hooks_named (unsigned_abs n)
 
   -- the counts
   counts : AreCountedAlike (known r) (told above)
@@ -92,7 +92,7 @@ module _ (s : Setting) (r : Reader) (above : List Statement) (k : Represents s r
         patterns = k.assets.pattern_names;
         names = k.tasks.names;
         supers = k.tasks.supers;
-        calls = k.tasks.so_far;
+        calls = k.tasks.calls_in_task;
       }
 
   -- and with a further line
@@ -128,7 +128,7 @@ module _ (s : Setting) (r : Reader) (above : List Statement) (k : Represents s r
   pairs_alike g act = ap (λ ps. gzz_lines ps g act) k.tasks.pairs
 
   above_alike : (name : List ℕ) → stands_above (known r) name ≡ stands_above (told above) name
-  above_alike name = rw (k.tasks.names, k.tasks.seen) refl
+  above_alike name = rw (k.tasks.names, k.tasks.names_without_slot) refl
 
   named_alike : (g : List ℕ) (act : GzzAct) → names_again (known r) g act ≡ names_again (told above) g act
   named_alike g (OpenGzz inner kind place box classes title) =
@@ -154,7 +154,7 @@ module _ (s : Setting) (r : Reader) (above : List Statement) (k : Represents s r
   -- the tests of a statement
   tests_alike : (f : Statement) → line_tested (setting_of r) (known r) (StatementLine f) ≡ line_tested s (told above) (StatementLine f)
   tests_alike f =
-      chain _ _ _ _ _ _ _ _ _ _ _ _ _ _ _ _ _ _ (ap (λ n. is_line_in_range n f) k.version) (ap (λ ns. lacks_name ns f) k.assets.names) (again f) (ap (λ ps. parts_pair ps f) k.tasks.pairs) (rw (k.tasks.group, k.tasks.began, k.tasks.so_far) refl) (few f) (ap (λ n. is_no_hook n (hook_on f)) k.hooks) (used (hook_on f)) (ap (λ n. has_padding n f) k.assets.width)
+      chain _ _ _ _ _ _ _ _ _ _ _ _ _ _ _ _ _ _ (ap (λ n. is_line_in_range n f) k.version) (ap (λ ns. lacks_name ns f) k.assets.names) (again f) (ap (λ ps. parts_pair ps f) k.tasks.pairs) (rw (k.tasks.group, k.tasks.calls_before_group, k.tasks.calls_in_task) refl) (few f) (ap (λ n. is_no_hook n (hook_on f)) k.hooks) (hooks_named (hook_on f)) (ap (λ n. has_padding n f) k.assets.width)
     where
       chain : (a b c j d e g h i a' b' c' j' d' e' g' h' i' : Bool) → a ≡ a' → b ≡ b' → c ≡ c' → j ≡ j' → d ≡ d' → e ≡ e' → g ≡ g' → h ≡ h' → i ≡ i' → (demand a Range >>= (λ _. demand (not b) NoName >>= (λ _. demand (not c) DoubleName >>= (λ _. demand (not j) GzzReason >>= (λ _. demand d Group >>= (λ _. demand e TooMany >>= (λ _. demand (not g) NoHook >>= (λ _. demand (not h) HookUsed >>= (λ _. demand (not i) Padding))))))))) ≡ (demand a' Range >>= (λ _. demand (not b') NoName >>= (λ _. demand (not c') DoubleName >>= (λ _. demand (not j') GzzReason >>= (λ _. demand d' Group >>= (λ _. demand e' TooMany >>= (λ _. demand (not g') NoHook >>= (λ _. demand (not h') HookUsed >>= (λ _. demand (not i') Padding)))))))))
       chain a b c j d e g h i a' b' c' j' d' e' g' h' i' p q r x s t u v w = rw (p, q, r, x, s, t, u, v, w) refl

@@ -1,7 +1,7 @@
 -- The outcome of lines, a line at a time, and the place after the lines that were read.
 use Rattle.std.proofs.Common.{◌≡◌, ℕ, ◌+◌, ◌-◌, ◌<◌, ◌≤◌, Bool, true, false, min, List, [], ◌∷◌, length, Result, Ok, Err, IfOk, ⊎_elim, ◌⊎◌, refl, sym, ap, subst, ◌∙◌, arith}
 use Rattle.lw_grammar.specs.Told.{told, stands_for}
-use Rattle.lw_grammar.specs.Script.{Setting, is_nothing_due, statements_with, Reached, with_line, at_number, may_end, end_read, lines_read, ScriptInput, input_from, added, is_skipped, line_read}
+use Rattle.lw_grammar.specs.Script.{Setting, is_nothing_due, statements_with, Reached, at_number, may_end, end_read, lines_read, ScriptInput, input_from, added, is_skipped, line_read}
 use Rattle.lw_grammar.specs.GoodLines.{AreGoodLines}
 use Rattle.lw_grammar.specs.declared.reason.Reason.{Reason}
 use Rattle.lw_grammar.specs.declared.reason.Reason.TheVariants.{Missing}
@@ -16,11 +16,7 @@ use Rattle.lw_reader.specs.declared.state.Reader.{Reader}
 use Rattle.lw_script.specs.Answers.{Advances, Gives, Takes}
 use Rattle.std.proofs.lemmas.Int.{clamps}
 
--- what lines give where a further one is read
-pub step : (s : Setting) (p : Reached) (line : List ℕ) (ls : List (List ℕ)) (statements : List Statement) → is_nothing_due (told p.statements).section ≡ false → statements_with s p.statements line ≡ Ok statements → lines_read s p (line ∷ ls) ≡ lines_read s (with_line p line statements) ls
-step s p line ls statements due e = rw (due, e) refl
-
--- the statements with it are those of good lines
+-- the statements with a further line are those of good lines
 pub step_good : (s : Setting) (above : List Statement) (line : List ℕ) (statements : List Statement) → AreGoodLines s above → statements_with s above line ≡ Ok statements → AreGoodLines s statements
 step_good s above line statements g e =
     let P : Result (List Statement) Reason → Type 0 = λ r. IfOk r (AreGoodLines s) in subst P e (with_good s above line g)

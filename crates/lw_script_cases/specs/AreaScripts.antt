@@ -227,7 +227,7 @@ abbrev pub told_in_2 : Told
 told_in_2 = told (statements_below Plain [] (lines in_version_2))
 
 abbrev pub after_calls : ℕ → Told
-after_calls n = record told_in_2 { so_far = n }
+after_calls n = record told_in_2 { calls_in_task = n }
 
 abbrev pub after_names : ℕ → Told
 after_names n = record told_in_2 { names = map (λ i. codes "n" ++ decimal i) (range_with_len 0 n) }

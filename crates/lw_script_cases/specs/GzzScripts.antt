@@ -363,7 +363,7 @@ abbrev pub told_paired : Told
 told_paired = told (statements_below Plain [] (lines paired))
 
 abbrev pub calls_made : ℕ → Told
-calls_made n = record told_paired { so_far = n }
+calls_made n = record told_paired { calls_in_task = n }
 
 abbrev pub layers_named : ℕ → Told
 layers_named n =

@@ -21,9 +21,9 @@ is_apart act = false
 
 -- the act names a layer, has no kin that share its variant, and hands its call neither a text nor a bitmap
 abbrev pub is_single_on_layers : Act → Bool
-is_single_on_layers (Create asked) = true
+is_single_on_layers (Create corners asked) = true
 is_single_on_layers InFront = true
-is_single_on_layers (Box corners) = true
+is_single_on_layers (Box at) = true
 is_single_on_layers (Fill corners) = true
 is_single_on_layers (ScrollRaster dx dy corners) = true
 is_single_on_layers (Blit area) = true

@@ -1,5 +1,6 @@
 -- What a statement of the reader means.
 use Rattle.std.specs.Prelude.{List, [], ◌∷◌, ℕ, map, option_map}
+use Rattle.lw_region.specs.Rectangle.{Rectangle}
 use Rattle.lw_area.specs.declared.point.Point.{Point}
 use Rattle.lw_calls.specs.declared.area.Area.{Area}
 use Rattle.lw_grammar.specs.Statements.{NewLayer as NewLayerMeaning, Act as ActMeaning, BareAct, NumberAct, PairAct, TextAct}
@@ -8,9 +9,10 @@ use Rattle.lw_grammar.specs.Statements.{FillAct, ScrollRasterAct, PutAct, BlitAc
 use Rattle.lw_grammar.specs.Statements.{LayersLine, ScreenLine, GlyphLine, BitmapLine, RowLine, PatternLine, TaskLine, EndLine}
 use Rattle.lw_grammar.specs.Statements.{OrderLine, NumbersLine, ReportLine, CallLine, LockLine, UnlockLine, HoldLine}
 use Rattle.lw_grammar.specs.Statements.{ReleaseLine, GzzAct as GzzMeaning, OpenGzz, BoxGzz, FrontGzz, BehindGzz, InFrontGzz}
-use Rattle.lw_grammar.specs.Statements.{CloseGzz, Line as LineMeaning, StatementLine, AreaLine, GzzLine, Four, four, bounds}
-use Rattle.lw_grammar.specs.Statements.{point}
+use Rattle.lw_grammar.specs.Statements.{CloseGzz, Line as LineMeaning, StatementLine, AreaLine, GzzLine, box, rectangle}
+use Rattle.lw_grammar.specs.Statements.{Box as BoxMeaning, point}
 use Rattle.lw_statements.specs.declared.statement.Corners.{Corners}
+use Rattle.lw_statements.specs.declared.statement.AskedBox.{AskedBox}
 use Rattle.lw_statements.specs.declared.statement.NewLayer.{NewLayer}
 use Rattle.lw_statements.specs.declared.statement.AskedArea.{AskedArea}
 use Rattle.lw_statements.specs.declared.statement.Act.{Act}
@@ -32,15 +34,17 @@ use Rattle.lw_statements.specs.declared.statement.Line.{Line}
 use Rattle.lw_statements.specs.declared.statement.Line.TheVariants.{Statement as StatementOf, Area as AreaOf, Gzz as GzzOf}
 use Rattle.lw_words.specs.Digits.{decoded}
 
-abbrev pub corners_meaning : Corners → Four
-corners_meaning c = four c.x0 c.y0 c.x1 c.y1
+abbrev pub corners_meaning : Corners → Rectangle
+corners_meaning c = rectangle c.x0 c.y0 c.x1 c.y1
+
+abbrev pub box_meaning : AskedBox → BoxMeaning
+box_meaning b = box b.x b.y b.w b.h
 
 abbrev pub new_layer_meaning : NewLayer → NewLayerMeaning
 new_layer_meaning a =
     record {
       kind = a.kind;
       place = a.place;
-      numbers = corners_meaning a.numbers;
       backdrop = a.backdrop;
       hook = a.hook;
       bits_w = a.bits_w;
@@ -52,20 +56,21 @@ area_meaning b = record { sx = b.sx; sy = b.sy; x = b.x; y = b.y; w = b.w; h = b
 
 -- names and texts by their bytes, and all else as it stands
 abbrev pub act_meaning : Act → ActMeaning
-act_meaning (RegRect op register c) = RegRectAct op register (bounds (corners_meaning c))
+act_meaning (RegRect op register c) = RegRectAct op register (corners_meaning c)
 act_meaning (RegPair op source into) = RegPairAct op source into
 act_meaning (RegClear register) = RegClearAct register
-act_meaning (Create asked) = CreateAct (new_layer_meaning asked)
-act_meaning (Open asked framed nocare classes title) = OpenAct (new_layer_meaning asked) framed nocare classes title.now
+act_meaning (Create c asked) = CreateAct (corners_meaning c) (new_layer_meaning asked)
+act_meaning (Open b asked framed nocare classes title) =
+    OpenAct (box_meaning b) (new_layer_meaning asked) framed nocare classes title.now
 act_meaning InFront = InFrontAct
-act_meaning (Box c) = BoxAct (corners_meaning c)
+act_meaning (Box b) = BoxAct (box_meaning b)
 act_meaning (Which x y) = WhichAct x y
 act_meaning (Bare verb) = BareAct verb
 act_meaning (Number verb z) = NumberAct verb z
 act_meaning (Pair verb x y) = PairAct verb x y
 act_meaning (Text verb t) = TextAct verb t.now
-act_meaning (Fill c) = FillAct (bounds (corners_meaning c))
-act_meaning (ScrollRaster dx dy c) = ScrollRasterAct dx dy (bounds (corners_meaning c))
+act_meaning (Fill c) = FillAct (corners_meaning c)
+act_meaning (ScrollRaster dx dy c) = ScrollRasterAct dx dy (corners_meaning c)
 act_meaning (Put bitmap b) = PutAct bitmap.now (area_meaning b)
 act_meaning (Blit b) = BlitAct (area_meaning b)
 act_meaning (EndRefresh full) = EndRefreshAct full
@@ -101,8 +106,8 @@ point_meaning p = point p.x p.y
 
 -- what is done with a window of two layers, by names and texts
 abbrev pub gzz_meaning : GzzAct → GzzMeaning
-gzz_meaning (OpenOf inner kind place c classes title) = OpenGzz inner.now kind place (corners_meaning c) classes title.now
-gzz_meaning (BoxOf c) = BoxGzz (corners_meaning c)
+gzz_meaning (OpenOf inner kind place b classes title) = OpenGzz inner.now kind place (box_meaning b) classes title.now
+gzz_meaning (BoxOf b) = BoxGzz (box_meaning b)
 gzz_meaning FrontOf = FrontGzz
 gzz_meaning BehindOf = BehindGzz
 gzz_meaning (InFrontOf other) = InFrontGzz other.now

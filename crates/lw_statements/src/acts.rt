@@ -2,7 +2,7 @@
 ghost use Rattle.std.specs.Prelude.{◌≡◌, ℕ, List, is_none, option_map};
 ghost use Rattle.lw_grammar.specs.Statements.{CallLine};
 ghost use Rattle.lw_grammar.specs.Told.{makes_super, hook_on};
-ghost use Rattle.lw_grammar.specs.Script.{is_on_all, is_arranging, is_activating, is_hooking, is_beginning, is_ending, are_all};
+ghost use Rattle.lw_grammar.specs.Script.{is_on_all, is_placing, is_activating, is_hooking, is_beginning, is_ending, are_all};
 ghost use Rattle.lw_grammar.specs.Script.{is_on_one, group_allows, allows_area, is_lock_on, is_hold, fits_group};
 ghost use Rattle.lw_statements.specs.StatementMeaning.{act_meaning, layers_meaning, statement_meaning};
 ghost use Rattle.lw_statements.specs.GroupMeaning.{group_meaning};
@@ -25,11 +25,11 @@ pub enum OpenGroup<'a> {
 
 impl Act<'_> {
     /// Whether its call makes, closes, moves or sizes a layer, or puts it elsewhere in the list.
-    pub fn is_arranging(&self) -> bool
-        ensures { result ≡ is_arranging (act_meaning self.now) }
+    pub fn is_placing(&self) -> bool
+        ensures { result ≡ is_placing (act_meaning self.now) }
     {
         match self {
-            Act::Create(_)
+            Act::Create { .. }
             | Act::Open { .. }
             | Act::InFront
             | Act::Box(_)
@@ -63,7 +63,7 @@ impl Act<'_> {
     fn is_on_all(&self) -> bool
         ensures { result ≡ is_on_all (act_meaning self.now) }
     {
-        self.is_arranging() || self.is_activating() || self.is_hooking()
+        self.is_placing() || self.is_activating() || self.is_hooking()
     }
 
     /// Whether it begins an update.
@@ -93,7 +93,7 @@ impl Act<'_> {
         ensures { (layers : List (List ℕ)) → result ≡ makes_super (CallLine layers (act_meaning self.now)) }
     {
         match self {
-            Act::Create(asked) | Act::Open { asked, .. } => match asked.kind {
+            Act::Create { asked, .. } | Act::Open { asked, .. } => match asked.kind {
                 Kind::SuperBitmap => true,
                 Kind::Simple | Kind::Smart => false,
             },
@@ -106,7 +106,7 @@ impl Act<'_> {
         ensures { (layers : List (List ℕ)) → result ≡ hook_on (CallLine layers (act_meaning self.now)) }
     {
         match self {
-            Act::Create(asked) | Act::Open { asked, .. } => asked.hook,
+            Act::Create { asked, .. } | Act::Open { asked, .. } => asked.hook,
             Act::Number(NumberVerb::Hook, number) => Some(*number),
             _ => None,
         }

@@ -1,16 +1,17 @@
 //! The calls that acts are.
 ghost use Rattle.std.specs.Prelude.{◌≡◌, ℕ, List, [], ◌∷◌, pos, ◌+ℤ◌, ◌-ℤ◌, IsTrue, IfOk, option_map, unsigned_abs};
 ghost use Rattle.lw_calls.specs.Limits.{axis_fits, rect_fits, coordinates_fit};
-ghost use Rattle.lw_grammar.specs.Statements.{is_hook_number, is_own_size, is_new_layer_in_range, place_and_size_fit};
-ghost use Rattle.lw_grammar.specs.Statements.{is_area_in_range, greatest_number, is_act_in_range, bounds};
+ghost use Rattle.lw_grammar.specs.Statements.{is_hook_number, is_own_size, is_new_layer_in_range, box_fits};
+ghost use Rattle.lw_grammar.specs.Statements.{is_blit_in_range, greatest_number, is_act_in_range};
 ghost use Rattle.lw_region.specs.Rectangle.{within};
 ghost use Rattle.lw_grammar.specs.Told.{make_of, created_make, opened_make, bare_call, number_call, pair_call, text_call};
 ghost use Rattle.lw_grammar.specs.Told.{spelled_call};
-ghost use Rattle.lw_statements.specs.StatementMeaning.{corners_meaning, new_layer_meaning, area_meaning, act_meaning};
+ghost use Rattle.lw_statements.specs.StatementMeaning.{corners_meaning, box_meaning, new_layer_meaning, area_meaning};
+ghost use Rattle.lw_statements.specs.StatementMeaning.{act_meaning};
 ghost use Rattle.lw_statements.specs.CallMeaning.{IsBitmapAt, is_apart, is_single_on_layers};
 
 use crate::converted::{byte, coordinate, count, extent, step};
-use crate::statement::{Act, AskedArea, NewLayer};
+use crate::statement::{Act, AskedArea, AskedBox, Corners, NewLayer};
 use lw_calls::{Area, Call, Kind, Make, Text};
 use lw_grammar::{BareVerb, NumberVerb, PairVerb, TextVerb};
 use std::alloc::{AllocError, Global};
@@ -68,39 +69,32 @@ impl NewLayer {
     }
 
     /// The layer of a creation, with these bounds.
-    fn created(&self) -> Make
-        requires bounds { IsTrue (rect_fits (bounds (corners_meaning self.now.numbers))) }
+    fn created(&self, corners: Corners) -> Make
+        requires bounds { IsTrue (rect_fits (corners_meaning corners)) }
         requires range { IsTrue (is_new_layer_in_range (new_layer_meaning self.now)) }
-        ensures { result ≡ created_make (new_layer_meaning self.now) }
+        ensures { result ≡ created_make (corners_meaning corners) (new_layer_meaning self.now) }
     {
-        let numbers = self.numbers;
         self.make(
-            step(numbers.x0),
-            step(numbers.y0),
-            spread(numbers.x0, numbers.x1),
-            spread(numbers.y0, numbers.y1),
+            step(corners.x0),
+            step(corners.y0),
+            spread(corners.x0, corners.x1),
+            spread(corners.y0, corners.y1),
         )
     }
 
-    /// The layer of an opening, with this place and size.
-    fn opened(&self) -> Make
-        requires bounds { IsTrue (place_and_size_fit (corners_meaning self.now.numbers)) }
+    /// The layer of an opening, with this box.
+    fn opened(&self, at: AskedBox) -> Make
+        requires fits { IsTrue (box_fits (box_meaning at)) }
         requires range { IsTrue (is_new_layer_in_range (new_layer_meaning self.now)) }
-        ensures { result ≡ opened_make (new_layer_meaning self.now) }
+        ensures { result ≡ opened_make (box_meaning at) (new_layer_meaning self.now) }
     {
-        let numbers = self.numbers;
-        self.make(
-            step(numbers.x0),
-            step(numbers.y0),
-            extent(numbers.x1),
-            extent(numbers.y1),
-        )
+        self.make(step(at.x), step(at.y), extent(at.w), extent(at.h))
     }
 }
 
 impl AskedArea {
     fn area(&self) -> Area
-        requires { IsTrue (is_area_in_range (area_meaning self.now)) }
+        requires { IsTrue (is_blit_in_range (area_meaning self.now)) }
         ensures { result ≡ area_meaning self.now }
     {
         Area {
@@ -252,17 +246,17 @@ impl Act<'_> {
         ensures { (bitmaps : List (List ℕ)) → result ≡ spelled_call bitmaps (act_meaning self.now) (slot ∷ other ∷ []) }
     {
         match self {
-            Act::Create(asked) => Call::Create {
+            Act::Create { corners, asked } => Call::Create {
                 slot,
-                make: asked.created(),
+                make: asked.created(*corners),
             },
             Act::InFront => Call::InFrontOf { slot, other },
-            Act::Box(corners) => Call::SetBox {
+            Act::Box(at) => Call::SetBox {
                 slot,
-                x: step(corners.x0),
-                y: step(corners.y0),
-                w: extent(corners.x1),
-                h: extent(corners.y1),
+                x: step(at.x),
+                y: step(at.y),
+                w: extent(at.w),
+                h: extent(at.h),
             },
             Act::Fill(corners) => Call::Fill {
                 slot,
@@ -300,6 +294,7 @@ impl Act<'_> {
     {
         match self {
             Act::Open {
+                at,
                 asked,
                 framed,
                 nocare,
@@ -307,7 +302,7 @@ impl Act<'_> {
                 title,
             } => Ok(Call::OpenWindow {
                 slot,
-                make: asked.opened(),
+                make: asked.opened(*at),
                 framed: *framed,
                 nocare: *nocare,
                 asks: *classes,
@@ -325,7 +320,7 @@ impl Act<'_> {
             Act::RegRect { .. } | Act::RegPair { .. } | Act::RegClear(_) | Act::Which { .. } => {
                 Ok(self.call_apart())
             }
-            Act::Create(_)
+            Act::Create { .. }
             | Act::InFront
             | Act::Box(_)
             | Act::Fill(_)

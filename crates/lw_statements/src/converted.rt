@@ -2,7 +2,6 @@
 ghost use Rattle.std.specs.Prelude.{◌≡◌, pos, IsTrue, unsigned_abs};
 ghost use Rattle.lw_region.specs.Rectangle.{within};
 ghost use Rattle.lw_calls.specs.Limits.{is_coordinate, rect_fits, is_extent};
-ghost use Rattle.lw_grammar.specs.Statements.{bounds};
 ghost use Rattle.lw_statements.specs.StatementMeaning.{corners_meaning};
 
 use crate::statement::Corners;
@@ -57,8 +56,8 @@ impl Corners {
     /// The rectangle with these bounds.
     #[tactic(auto, using(std::proofs::lemmas::Int::ints))]
     pub fn rect(&self) -> Rect
-        requires { IsTrue (rect_fits (bounds (corners_meaning self.now))) }
-        ensures { result ≡ bounds (corners_meaning self.now) }
+        requires { IsTrue (rect_fits (corners_meaning self.now)) }
+        ensures { result ≡ corners_meaning self.now }
     {
         Rect::new(
             coordinate(self.x0),

@@ -3,24 +3,24 @@ ghost use Rattle.std.specs.Prelude.{◌≡◌, ℕ, true, false, [], ◌∷◌, 
 ghost use Rattle.lw_grammar.specs.Statements.{BareAct, OpenAct, InFrontAct, BoxAct, CallLine, HoldLine, ReleaseLine};
 ghost use Rattle.lw_grammar.specs.Statements.{new_without_bitmap, is_gzz_box, is_gzz_in_range};
 ghost use Rattle.lw_grammar.specs.Told.{inner_box, gzz_calls};
-ghost use Rattle.lw_statements.specs.StatementMeaning.{corners_meaning, statement_meaning, gzz_meaning};
+ghost use Rattle.lw_statements.specs.StatementMeaning.{box_meaning, statement_meaning, gzz_meaning};
 
-use crate::statement::{Act, Corners, GzzAct, Layers, NewLayer, Statement};
+use crate::statement::{Act, AskedBox, GzzAct, Layers, NewLayer, Statement};
 use lw_calls::{Kind, Place};
 use lw_grammar::BareVerb;
 use std::alloc::{AllocError, Global};
 
 /// The box of the inner layer in that of the outer one.
 #[tactic(auto, using(std::proofs::lemmas::Int::ints), unfolding(lw_region::specs::Rectangle::within))]
-fn inner_box(numbers: Corners) -> Corners
-    requires { (width : ℕ) × (height : ℕ) × IsTrue (is_gzz_box width height (corners_meaning numbers)) }
-    ensures { corners_meaning result ≡ inner_box (corners_meaning numbers) }
+fn inner_box(at: AskedBox) -> AskedBox
+    requires { (width : ℕ) × (height : ℕ) × IsTrue (is_gzz_box width height (box_meaning at)) }
+    ensures { box_meaning result ≡ inner_box (box_meaning at) }
 {
-    Corners {
-        x0: numbers.x0 + 4,
-        y0: numbers.y0 + 11,
-        x1: numbers.x1 - 8,
-        y1: numbers.y1 - 13,
+    AskedBox {
+        x: at.x + 4,
+        y: at.y + 11,
+        w: at.w - 8,
+        h: at.h - 13,
     }
 }
 
@@ -67,19 +67,20 @@ fn opened<'a>(
     layer: &'a [u8],
     kind: Kind,
     place: Place,
-    numbers: Corners,
+    at: AskedBox,
     framed: bool,
     classes: u8,
     title: &'a [u8],
 ) -> Statement<'a>
     ensures { statement_meaning result ≡ CallLine (layer.entry.now ∷ [])
-        (OpenAct (new_without_bitmap kind place (corners_meaning numbers) false None)
+        (OpenAct (box_meaning at) (new_without_bitmap kind place false None)
         framed false classes title.entry.now) }
 {
-    let asked = NewLayer::without_bitmap(kind, place, numbers, false, None);
+    let asked = NewLayer::without_bitmap(kind, place, false, None);
     Statement::on(
         layer,
         Act::Open {
+            at,
             asked,
             framed,
             nocare: false,
@@ -105,27 +106,19 @@ pub fn gzz_statements<'a>(
         GzzAct::Open {
             kind,
             place,
-            numbers,
+            at,
             classes,
             title,
             ..
         } => {
-            let frame = opened(outer, Kind::Smart, *place, *numbers, true, *classes, *title);
-            let inside = opened(
-                inner,
-                *kind,
-                *place,
-                inner_box(*numbers),
-                false,
-                *classes,
-                b"",
-            );
+            let frame = opened(outer, Kind::Smart, *place, *at, true, *classes, *title);
+            let inside = opened(inner, *kind, *place, inner_box(*at), false, *classes, b"");
             let last = put_in_front(inner, outer);
             Ok(vec![in alloc; Statement::Hold, frame, inside, last, Statement::Release]?)
         }
-        GzzAct::Box(numbers) => {
-            let first = Statement::on(outer, Act::Box(*numbers));
-            let second = Statement::on(inner, Act::Box(inner_box(*numbers)));
+        GzzAct::Box(at) => {
+            let first = Statement::on(outer, Act::Box(*at));
+            let second = Statement::on(inner, Act::Box(inner_box(*at)));
             two_held(alloc, first, second)
         }
         GzzAct::Front => on_both(alloc, BareVerb::Front, outer, inner),

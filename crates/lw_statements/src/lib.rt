@@ -16,5 +16,6 @@ pub use gzz_calls::gzz_statements;
 pub use ranges::version_at_screen;
 pub use section::{Section, belongs_in, is_known_in};
 pub use statement::{
-    Act, AskedArea, AskedPoint, AskedPolygon, Corners, GzzAct, Layers, Line, NewLayer, Statement,
+    Act, AskedArea, AskedBox, AskedPoint, AskedPolygon, Corners, GzzAct, Layers, Line, NewLayer,
+    Statement,
 };

@@ -3,14 +3,14 @@ ghost use Rattle.std.specs.List.{list_all};
 ghost use Rattle.lw_region.specs.Rectangle.{within};
 ghost use Rattle.lw_area.specs.Polygons.{is_in_range};
 ghost use Rattle.lw_calls.specs.Limits.{is_coordinate, axis_fits, rect_fits, coordinates_fit as places_meant, is_extent};
-ghost use Rattle.lw_grammar.specs.Statements.{is_hook_number, is_own_size, is_new_layer_in_range, place_and_size_fit};
-ghost use Rattle.lw_grammar.specs.Statements.{is_area_in_range, greatest_number, is_act_in_range, version_at_screen};
-ghost use Rattle.lw_grammar.specs.Statements.{are_sizes_in_range, is_line_in_range, is_gzz_box, is_gzz_in_range, bounds};
-ghost use Rattle.lw_statements.specs.StatementMeaning.{corners_meaning, new_layer_meaning, area_meaning, act_meaning};
-ghost use Rattle.lw_statements.specs.StatementMeaning.{statement_meaning, point_meaning, gzz_meaning};
+ghost use Rattle.lw_grammar.specs.Statements.{is_hook_number, is_own_size, is_new_layer_in_range, box_fits};
+ghost use Rattle.lw_grammar.specs.Statements.{is_blit_in_range, greatest_number, is_act_in_range, version_at_screen};
+ghost use Rattle.lw_grammar.specs.Statements.{are_sizes_in_range, is_line_in_range, is_gzz_box, is_gzz_in_range};
+ghost use Rattle.lw_statements.specs.StatementMeaning.{corners_meaning, box_meaning, new_layer_meaning, area_meaning};
+ghost use Rattle.lw_statements.specs.StatementMeaning.{act_meaning, statement_meaning, point_meaning, gzz_meaning};
 
 use crate::statement::{
-    Act, AskedArea, AskedPoint, AskedPolygon, Corners, GzzAct, NewLayer, Statement,
+    Act, AskedArea, AskedBox, AskedPoint, AskedPolygon, Corners, GzzAct, NewLayer, Statement,
 };
 use lw_calls::{Kind, limits_of};
 use lw_grammar::NumberVerb;
@@ -55,16 +55,17 @@ fn fits_axis(low: i64, high: i64) -> bool
 impl Corners {
     /// Whether all are coordinates and neither maximum is below its minimum.
     fn fit(&self) -> bool
-        ensures { result ≡ rect_fits (bounds (corners_meaning self.now)) }
+        ensures { result ≡ rect_fits (corners_meaning self.now) }
     {
         fits_axis(self.x0, self.x1) && fits_axis(self.y0, self.y1)
     }
+}
 
-    /// Whether they are a place, a width and a height.
-    fn are_place_and_size(&self) -> bool
-        ensures { result ≡ place_and_size_fit (corners_meaning self.now) }
+impl AskedBox {
+    fn fits(&self) -> bool
+        ensures { result ≡ box_fits (box_meaning self.now) }
     {
-        coordinates_fit(self.x0, self.y0) && (is_extent(self.x1) && is_extent(self.y1))
+        coordinates_fit(self.x, self.y) && (is_extent(self.w) && is_extent(self.h))
     }
 }
 
@@ -91,7 +92,6 @@ fn is_own_size(kind: Kind, width: i64, height: i64) -> bool
 }
 
 impl NewLayer {
-    /// Whether the numbers besides the four are in their ranges.
     fn is_in_range(&self) -> bool
         ensures { result ≡ is_new_layer_in_range (new_layer_meaning self.now) }
     {
@@ -101,7 +101,7 @@ impl NewLayer {
 
 impl AskedArea {
     fn is_in_range(&self) -> bool
-        ensures { result ≡ is_area_in_range (area_meaning self.now) }
+        ensures { result ≡ is_blit_in_range (area_meaning self.now) }
     {
         (coordinates_fit(self.sx, self.sy) && coordinates_fit(self.x, self.y))
             && (is_extent(self.w) && is_extent(self.h))
@@ -134,9 +134,9 @@ impl Act<'_> {
                 is_between(0, *source, 7) && is_between(0, *into, 7)
             }
             Act::RegClear(register) => is_between(0, *register, 7),
-            Act::Create(asked) => asked.numbers.fit() && asked.is_in_range(),
-            Act::Open { asked, .. } => asked.numbers.are_place_and_size() && asked.is_in_range(),
-            Act::Box(corners) => corners.are_place_and_size(),
+            Act::Create { corners, asked } => corners.fit() && asked.is_in_range(),
+            Act::Open { at, asked, .. } => at.fits() && asked.is_in_range(),
+            Act::Box(at) => at.fits(),
             Act::Which { x, y } | Act::Pair(_, x, y) => coordinates_fit(*x, *y),
             Act::Number(verb, number) => is_between(0, *number, greatest_number(*verb)),
             Act::Fill(corners) => corners.fit(),
@@ -261,14 +261,14 @@ fn lies_along(least: i64, first: i64, size: i64, most: u32) -> bool
     is_coordinate(last_of(first, size))
 }
 
-impl Corners {
-    /// Whether they are a box that a window of two layers may have on a screen of this width and height.
+impl AskedBox {
+    /// Whether a window of two layers may have it on a screen of this width and height.
     #[tactic(auto, using(crate::proofs::GzzBoxes::box_by_axes))]
-    fn are_gzz_box(&self, width: u32, height: u32) -> bool
-        ensures { result ≡ is_gzz_box width height (corners_meaning self.now) }
+    fn is_gzz_box(&self, width: u32, height: u32) -> bool
+        ensures { result ≡ is_gzz_box width height (box_meaning self.now) }
     {
-        let across = lies_along(9, self.x0, self.x1, width);
-        let down = lies_along(14, self.y0, self.y1, height);
+        let across = lies_along(9, self.x, self.w, width);
+        let down = lies_along(14, self.y, self.h, height);
         across && down
     }
 }
@@ -279,8 +279,8 @@ impl GzzAct<'_> {
         ensures { result ≡ is_gzz_in_range width height (gzz_meaning self.now) }
     {
         match self {
-            GzzAct::Open { numbers, .. } => numbers.are_gzz_box(width, height),
-            GzzAct::Box(numbers) => numbers.are_gzz_box(width, height),
+            GzzAct::Open { at, .. } => at.is_gzz_box(width, height),
+            GzzAct::Box(at) => at.is_gzz_box(width, height),
             GzzAct::Front | GzzAct::Behind | GzzAct::InFront(_) | GzzAct::Close => true,
         }
     }

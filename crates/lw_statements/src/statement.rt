@@ -7,7 +7,7 @@ use lw_calls::{Kind, PairOp, Place, RectOp};
 use lw_grammar::{BareVerb, NumberVerb, PairVerb, TextVerb};
 use lw_words::Digits;
 
-/// Four numbers of a line: the bounds of a rectangle, or a place and a size.
+/// The bounds of a rectangle, in the line's own numbers.
 #[derive(Clone, Copy)]
 pub struct Corners {
     pub x0: i64,
@@ -16,13 +16,21 @@ pub struct Corners {
     pub y1: i64,
 }
 
-/// A layer as a line asks for it, in the line's own numbers. The call that the line is has a `Make` of them.
+/// A place, a width and a height, in the line's own numbers.
+#[derive(Clone, Copy)]
+pub struct AskedBox {
+    pub x: i64,
+    pub y: i64,
+    pub w: i64,
+    pub h: i64,
+}
+
+/// A layer as a line asks for it beside its bounds or its box, in the line's own numbers. The call that the line is has a `Make`
+/// of them.
 #[derive(Clone, Copy)]
 pub struct NewLayer {
     pub kind: Kind,
     pub place: Place,
-    /// The bounds of a creation, or the place and size of an opening.
-    pub numbers: Corners,
     pub backdrop: bool,
     pub hook: Option<i64>,
     /// The size of a bitmap of its own, or 0 and 0.
@@ -34,22 +42,15 @@ pub struct NewLayer {
 impl NewLayer {
     ghost use Rattle.std.specs.Prelude.{◌≡◌};
     ghost use Rattle.lw_grammar.specs.Statements.{new_without_bitmap};
-    ghost use Rattle.lw_statements.specs.StatementMeaning.{corners_meaning, new_layer_meaning};
+    ghost use Rattle.lw_statements.specs.StatementMeaning.{new_layer_meaning};
 
     /// A layer without a bitmap of its own.
-    pub fn without_bitmap(
-        kind: Kind,
-        place: Place,
-        numbers: Corners,
-        backdrop: bool,
-        hook: Option<i64>,
-    ) -> NewLayer
-        ensures { new_layer_meaning result ≡ new_without_bitmap kind place (corners_meaning numbers) backdrop hook }
+    pub fn without_bitmap(kind: Kind, place: Place, backdrop: bool, hook: Option<i64>) -> NewLayer
+        ensures { new_layer_meaning result ≡ new_without_bitmap kind place backdrop hook }
     {
         NewLayer {
             kind,
             place,
-            numbers,
             backdrop,
             hook,
             bits_w: 0,
@@ -87,8 +88,12 @@ pub enum Act<'a> {
     },
     /// A register emptied.
     RegClear(i64),
-    Create(NewLayer),
+    Create {
+        corners: Corners,
+        asked: NewLayer,
+    },
     Open {
+        at: AskedBox,
         asked: NewLayer,
         framed: bool,
         nocare: bool,
@@ -97,8 +102,7 @@ pub enum Act<'a> {
         title: &'a [u8],
     },
     InFront,
-    /// A place, a width and a height.
-    Box(Corners),
+    Box(AskedBox),
     Which {
         x: i64,
         y: i64,
@@ -196,8 +200,7 @@ pub struct AskedPolygon<'a> {
     pub ghost count: { is_point_count (length points.items) ≡ true },
 }
 
-/// What a line does with a window of two layers. Names and texts stand in the input, and boxes are in the line's own numbers: a
-/// place, a width and a height.
+/// What a line does with a window of two layers. Names and texts stand in the input, and boxes are in the line's own numbers.
 #[derive(Clone, Copy)]
 pub enum GzzAct<'a> {
     Open {
@@ -205,12 +208,12 @@ pub enum GzzAct<'a> {
         /// That of the inner layer.
         kind: Kind,
         place: Place,
-        numbers: Corners,
+        at: AskedBox,
         /// The set of the classes of messages: class k is bit k.
         classes: u8,
         title: &'a [u8],
     },
-    Box(Corners),
+    Box(AskedBox),
     Front,
     Behind,
     /// In front of this layer.

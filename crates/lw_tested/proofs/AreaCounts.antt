@@ -39,7 +39,7 @@ record HasFills (t u : Told) (ns : List (List ℕ)) (n : ℕ) : Type 0 where
   patterns : u.pattern_names ≡ t.pattern_names
   supers : u.supers ≡ t.supers
   names : u.names ≡ ns
-  calls : u.so_far ≡ t.so_far + n
+  calls : u.calls_in_task ≡ t.calls_in_task + n
 
 module _ (layer : List ℕ) where
   fills_count : (rs : List Rectangle) (t : Told) → HasFills t (told_all (fill_lines layer rs) t) (filled t.names layer rs) (length rs)
@@ -47,7 +47,7 @@ module _ (layer : List ℕ) where
       record { tasks = refl; bitmaps = refl; patterns = refl; supers = refl; names = refl; calls = omega arith }
   fills_count (r ∷ rs) t =
       let k = fills_count rs (told_with (CallLine (layer ∷ []) (FillAct r)) t) in
-      let more : (told_all (fill_lines layer (r ∷ rs)) t).so_far ≡ (t.so_far + 1) + length rs = k.calls in
+      let more : (told_all (fill_lines layer (r ∷ rs)) t).calls_in_task ≡ (t.calls_in_task + 1) + length rs = k.calls in
       let asked : (told_all (fill_lines layer (r ∷ rs)) t).supers ≡ 0 + t.supers = k.supers in
       record { tasks = k.tasks; bitmaps = k.bitmaps; patterns = k.patterns; supers = omega (arith, asked); names = k.names ∙ twice t.names layer rs; calls = omega (arith, more) }
 
@@ -75,5 +75,5 @@ beyond false b m n h = refl
 beyond true false m n h = refl
 beyond true true m n h = grind (arith, nat_tests)
 
-pub many_fills : (limits : Limits) (t : Told) (layer : List ℕ) (n : ℕ) → limits.calls - t.so_far < n → are_few limits (with_fills t layer n) ≡ false
-many_fills limits t layer n h = beyond _ (nat_le t.supers super_limit) (t.so_far + n) limits.calls (omega (arith, h))
+pub many_fills : (limits : Limits) (t : Told) (layer : List ℕ) (n : ℕ) → limits.calls - t.calls_in_task < n → are_few limits (with_fills t layer n) ≡ false
+many_fills limits t layer n h = beyond _ (nat_le t.supers super_limit) (t.calls_in_task + n) limits.calls (omega (arith, h))

@@ -66,7 +66,7 @@ room_found t area rects n e l h = (room_is t area rects.items n e l ∙ h, e)
 pub room_lacking : (t : Told) (area : AskedPolygon) (rects : List Rectangle) (n : ℕ) → rects ≡ rectangles_of t area → n ≡ length rects → are_few (limits_of t.version) (with_fills t area.layer.now n) ≡ false → MakesFills t area (Err (Refused TooMany))
 room_lacking t area rects n e l h = (refl, room_is t area rects n e l ∙ h)
 
-pub fills_beyond : (t : Told) (area : AskedPolygon) → (limits_of t.version).calls - t.so_far < length (rectangles_of t area) → MakesFills t area (Err (Refused TooMany))
+pub fills_beyond : (t : Told) (area : AskedPolygon) → (limits_of t.version).calls - t.calls_in_task < length (rectangles_of t area) → MakesFills t area (Err (Refused TooMany))
 fills_beyond t area h =
     (refl, room_is t area (rectangles_of t area) _ refl refl ∙ many_fills (limits_of t.version) t area.layer.now (length (rectangles_of t area)) h)
 
@@ -77,7 +77,7 @@ spans_found t area points limit spans rects is a e =
     let h : AreSpans points words limit (Rects rects) = subst (AreSpans points words limit) is a in
     h.0 ∙ ap (λ ps. area_rectangles ps words) e
 
-pub spans_beyond : (t : Told) (area : AskedPolygon) (points : List Point) (limit : ℕ) (spans : Spans) → spans ≡ MoreSpans → AreSpans points (area_words t (names_of area.pattern)) limit spans → points ≡ points_of area → limit ≡ (limits_of t.version).calls - t.so_far → MakesFills t area (Err (Refused TooMany))
+pub spans_beyond : (t : Told) (area : AskedPolygon) (points : List Point) (limit : ℕ) (spans : Spans) → spans ≡ MoreSpans → AreSpans points (area_words t (names_of area.pattern)) limit spans → points ≡ points_of area → limit ≡ (limits_of t.version).calls - t.calls_in_task → MakesFills t area (Err (Refused TooMany))
 spans_beyond t area points limit spans is a e l =
     let words = area_words t (names_of area.pattern) in
     let h : AreSpans points words limit MoreSpans = subst (AreSpans points words limit) is a in

@@ -15,7 +15,7 @@ record AreAsMany (t u : Told) : Type 0 where
   patterns : t.pattern_names ≡ u.pattern_names
   names : t.names ≡ u.names
   supers : t.supers ≡ u.supers
-  calls : t.so_far ≡ u.so_far
+  calls : t.calls_in_task ≡ u.calls_in_task
 
 few_as_many : (limits : Limits) (t u : Told) → AreAsMany t u → are_few limits t ≡ are_few limits u
 few_as_many limits t u k = rw (k.tasks, k.bitmaps, k.patterns, k.names, k.supers, k.calls) refl
@@ -49,17 +49,17 @@ three_calls n = omega arith
 
 as_many : (t : Told) (g : List ℕ) (act : GzzAct) → AreAsMany (told_all (stands_for t (GzzLine g act)) t) (with_gzz t g (inner_by t.pairs g act) act)
 as_many t g (OpenGzz inner kind place r classes title) =
-    record { tasks = refl; bitmaps = refl; patterns = refl; names = opened_names t.names g inner; supers = one_asks _ t.supers; calls = three_calls t.so_far }
+    record { tasks = refl; bitmaps = refl; patterns = refl; names = opened_names t.names g inner; supers = one_asks _ t.supers; calls = three_calls t.calls_in_task }
 as_many t g (BoxGzz r) =
-    record { tasks = refl; bitmaps = refl; patterns = refl; names = refl; supers = none_more t.supers; calls = two_calls t.so_far }
+    record { tasks = refl; bitmaps = refl; patterns = refl; names = refl; supers = none_more t.supers; calls = two_calls t.calls_in_task }
 as_many t g FrontGzz =
-    record { tasks = refl; bitmaps = refl; patterns = refl; names = refl; supers = none_more t.supers; calls = two_calls t.so_far }
+    record { tasks = refl; bitmaps = refl; patterns = refl; names = refl; supers = none_more t.supers; calls = two_calls t.calls_in_task }
 as_many t g BehindGzz =
-    record { tasks = refl; bitmaps = refl; patterns = refl; names = refl; supers = none_more t.supers; calls = two_calls t.so_far }
+    record { tasks = refl; bitmaps = refl; patterns = refl; names = refl; supers = none_more t.supers; calls = two_calls t.calls_in_task }
 as_many t g (InFrontGzz m) =
-    record { tasks = refl; bitmaps = refl; patterns = refl; names = placed_names t.names g m (inner_by t.pairs g (InFrontGzz m)); supers = none_more t.supers; calls = two_calls t.so_far }
+    record { tasks = refl; bitmaps = refl; patterns = refl; names = placed_names t.names g m (inner_by t.pairs g (InFrontGzz m)); supers = none_more t.supers; calls = two_calls t.calls_in_task }
 as_many t g CloseGzz =
-    record { tasks = refl; bitmaps = refl; patterns = refl; names = refl; supers = none_more t.supers; calls = two_calls t.so_far }
+    record { tasks = refl; bitmaps = refl; patterns = refl; names = refl; supers = none_more t.supers; calls = two_calls t.calls_in_task }
 
 -- whether all of it are few
 pub few_gzz : (limits : Limits) (t : Told) (g : List ℕ) (act : GzzAct) → are_few limits (told_all (stands_for t (GzzLine g act)) t) ≡ are_few limits (with_gzz t g (inner_by t.pairs g act) act)

@@ -35,7 +35,7 @@ rectangles_of t area = area_rectangles (points_of area) (area_words t (names_of 
 -- what lines tell with so many fills of a layer, as far as it is counted
 abbrev pub with_fills : Told → List ℕ → ℕ → Told
 with_fills t layer fills =
-    record t { names = if fills == 0 then t.names else and_name t.names layer; so_far = t.so_far + fills }
+    record t { names = if fills == 0 then t.names else and_name t.names layer; calls_in_task = t.calls_in_task + fills }
 
 -- the line of an area
 abbrev pub area_meaning : AskedPolygon → Line

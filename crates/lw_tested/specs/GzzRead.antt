@@ -28,7 +28,7 @@ with_gzz t g i act =
     record t {
       names = and_names t.names (gzz_names g i act);
       supers = gzz_supers act t.supers;
-      so_far = t.so_far + gzz_count act;
+      calls_in_task = t.calls_in_task + gzz_count act;
     }
 
 -- it passes its tests

@@ -114,7 +114,7 @@ fn has_room_for_fills<'a>(reader: &Reader<'a>, layer: &&'a [u8], fills: usize) -
             && reader.assets.pattern_names.len() <= PATTERN_LIMIT))
         && names_with_fills(reader, layer, fills) <= limits.names as usize)
         && (reader.tasks.supers <= SUPER_LIMIT
-            && reader.tasks.so_far as usize + fills <= limits.calls as usize)
+            && reader.tasks.calls_in_task as usize + fills <= limits.calls as usize)
 }
 
 /// The rectangles of an area that is in range and whose pattern stands above, where nothing is one too many with its
@@ -128,7 +128,7 @@ fn fills<'a>(alloc: Global, reader: &Reader<'a>, area: &AskedPolygon<'a>) -> Res
     let polygon = polygon_of(alloc, area.points.as_slice())?;
     let left = limits_of(reader.version)
         .calls
-        .saturating_sub(reader.tasks.so_far);
+        .saturating_sub(reader.tasks.calls_in_task);
     match spans(alloc, reader, &polygon, &area.pattern, left)? {
         Spans::TooMany => Err(Stop::Refused(Reason::TooMany)),
         Spans::Rects(rects) => {

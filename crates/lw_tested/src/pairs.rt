@@ -101,7 +101,7 @@ pub(crate) fn parts_pair<'a>(reader: &Reader<'a>, statement: &Statement<'a>) -> 
 {
     match statement {
         Statement::Call { layers, act } => {
-            (act.is_arranging() && names_paired(reader, layers))
+            (act.is_placing() && names_paired(reader, layers))
                 || (act.is_activating() && names_inner(reader, layers))
         }
         _ => false,
@@ -122,7 +122,7 @@ fn lacks_pair<'a>(reader: &Reader<'a>, outer: &[u8], act: &GzzAct<'a>) -> bool
 fn stands_above<'a>(reader: &Reader<'a>, name: &&'a [u8]) -> bool
     ensures { result ≡ stands_above (known reader.now) name.now.now }
 {
-    has_name(&reader.tasks.layer_names, name) || has_name(&reader.tasks.seen, name)
+    has_name(&reader.tasks.layer_names, name) || has_name(&reader.tasks.names_without_slot, name)
 }
 
 /// Whether a name of a window that is opened stands above, or both are one.
@@ -233,11 +233,11 @@ fn has_room_for_inner<'a>(reader: &Reader<'a>, act: &GzzAct<'a>) -> bool
 
 /// Whether a task may have a window's calls beside those that it has, where it may have so many.
 fn has_room_for_calls<'a>(reader: &Reader<'a>, act: &GzzAct<'a>, calls: u32) -> bool
-    ensures { result ≡ nat_le ((known reader.now).so_far + gzz_count (gzz_meaning act.now)) calls }
+    ensures { result ≡ nat_le ((known reader.now).calls_in_task + gzz_count (gzz_meaning act.now)) calls }
 {
     match act {
-        GzzAct::Open { .. } => u64::from(reader.tasks.so_far) + 3 <= u64::from(calls),
-        _ => u64::from(reader.tasks.so_far) + 2 <= u64::from(calls),
+        GzzAct::Open { .. } => u64::from(reader.tasks.calls_in_task) + 3 <= u64::from(calls),
+        _ => u64::from(reader.tasks.calls_in_task) + 2 <= u64::from(calls),
     }
 }
 

@@ -42,7 +42,7 @@ fn gives_again<'a>(reader: &Reader<'a>, statement: &Statement<'a>) -> bool
     ensures { result ≡ gives_again (known reader.now) (statement_meaning statement.now) }
 {
     match statement {
-        Statement::Glyph { code, .. } => reader.assets.given[*code as usize],
+        Statement::Glyph { code, .. } => reader.assets.glyph_codes[*code as usize],
         Statement::Bitmap { name, .. } => has_name(&reader.assets.names, name),
         Statement::Pattern { name, .. } => has_name(&reader.assets.pattern_names, name),
         Statement::Task(name) => has_name(&reader.tasks.task_names, name),
@@ -82,12 +82,12 @@ fn patterns_with<'a>(reader: &Reader<'a>, statement: &Statement<'a>) -> usize
 
 /// Whether a task may have the line's call beside those that it has, where it may have so many.
 fn has_room_for_call<'a>(reader: &Reader<'a>, statement: &Statement<'a>, calls: u32) -> bool
-    ensures { result ≡ nat_le (told_with (statement_meaning statement.now) (known reader.now)).so_far calls }
+    ensures { result ≡ nat_le (told_with (statement_meaning statement.now) (known reader.now)).calls_in_task calls }
 {
     match statement {
         Statement::Task(_) => true,
-        Statement::Call { .. } => reader.tasks.so_far < calls,
-        _ => reader.tasks.so_far <= calls,
+        Statement::Call { .. } => reader.tasks.calls_in_task < calls,
+        _ => reader.tasks.calls_in_task <= calls,
     }
 }
 
@@ -184,11 +184,11 @@ fn is_no_hook<'a>(reader: &Reader<'a>, statement: &Statement<'a>) -> bool
 /// Whether the hook that the line names is used.
 fn is_used<'a>(reader: &Reader<'a>, statement: &Statement<'a>) -> bool
     requires { IsTrue (is_line_in_range reader.now.version (statement_meaning statement.now)) }
-    ensures { result ≡ is_used (known reader.now).used (hook_on (statement_meaning statement.now)) }
+    ensures { result ≡ is_used (known reader.now).hooks_named (hook_on (statement_meaning statement.now)) }
 {
     match statement.hook() {
         None => false,
-        Some(number) => has_hook(&reader.tasks.used, &count(number)),
+        Some(number) => has_hook(&reader.tasks.hooks_named, &count(number)),
     }
 }
 
@@ -209,7 +209,7 @@ fn fits_group<'a>(reader: &Reader<'a>, statement: &Statement<'a>) -> bool
 {
     statement.fits_group(
         &reader.tasks.group,
-        reader.tasks.began < reader.tasks.so_far,
+        reader.tasks.calls_before_group < reader.tasks.calls_in_task,
     )
 }
 

@@ -206,7 +206,7 @@ one_outcome hooks command input TooLong q a b x y = absurd (omega (arith, x.0, y
 one_outcome hooks command input s TooLong a b x y = absurd (omega (arith, x.0, y.0))
 one_outcome hooks command input (Refused m r) (Refused n e) a b x y =
     let bad = one_bad_line (reads_with (length hooks) command) (lines input) m n r e x.1 y.1 in
-    let same : Refused m r ≡ Refused n e = cc in
+    let same : Refused m r ≡ Refused n e = ap (λ (k : ℕ). Refused k r) bad.0 ∙ ap (λ (q : Reason). Refused n q) bad.1 in
     (same, inl (x.2 ∙ ap text_of same ∙ sym y.2))
 one_outcome hooks command input (Refused m r) q a b x y = absurd (bad_or_spelled (reads_with (length hooks) command) input m r y.1 x.1 y.2)
 one_outcome hooks command input s (Refused n e) a b x y = absurd (bad_or_spelled (reads_with (length hooks) command) input n e x.1 y.1 x.2)

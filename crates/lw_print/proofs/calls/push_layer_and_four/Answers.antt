@@ -1,7 +1,6 @@
 use Rattle.std.proofs.Common.{rules, [], ◌∷◌}
 use Rattle.std.specs.Fmt.{signed_decimal}
 use Rattle.std.proofs.lemmas.Result.{on_ok_weaker}
-use Rattle.lw_grammar.specs.Statements.{four}
 use Rattle.lw_canonical.specs.Spelling.{four_words, bounds_words}
 use Rattle.lw_print.proofs.Joined.{more_behind, word_more, bounds_behind}
 use Rattle.lw_print.proofs.Numbers.{number_read, four_written, placed_written}
@@ -12,7 +11,7 @@ returns-in_ok-push_word-in-SetBox c = λ bitmaps.
     let call = c.in-SetBox in
     rw call.is
     (on_ok_weaker c.push_four.result
-    (λ h. word_more _ _ (four_words (four call.x call.y call.w call.h)) c.args.out.now.items _ _ c.name_of.ensures c.in_ok-push_word-in-SetBox.ensures.ok
+    (λ h. word_more _ _ (four_words call.x call.y call.w call.h) c.args.out.now.items _ _ c.name_of.ensures c.in_ok-push_word-in-SetBox.ensures.ok
     (four_written _ _ _ _ _ _ _ _ _ _ (number_read call.x (search rules)) (number_read call.y (search rules)) (number_read call.w (search rules)) (number_read call.h (search rules)) h))
     c.push_four.ensures)
 

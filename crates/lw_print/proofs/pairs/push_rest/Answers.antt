@@ -1,6 +1,5 @@
 use Rattle.std.proofs.Common.{rules, ℕ, List, [], ◌∷◌, ◌++◌, ◌∙◌, ap}
 use Rattle.std.proofs.lemmas.Result.{on_ok_weaker}
-use Rattle.lw_grammar.specs.Statements.{four}
 use Rattle.lw_canonical.specs.Spelling.{kind_word, place_word, four_words, ask_words, text_word}
 use Rattle.lw_print.specs.Behind.{behind}
 use Rattle.lw_print.proofs.Joined.{more_behind, word_more}
@@ -11,7 +10,7 @@ pub returns-in_ok-push_asks-in-Open : goal.returns-in_ok-push_asks-in-Open
 returns-in_ok-push_asks-in-Open c =
     let word = c.in-Open in
     let made : List (List ℕ) = kind_word word.kind ∷ place_word word.place ∷ [] in
-    let box : List (List ℕ) = four_words (four word.x word.y word.w word.h) in
+    let box : List (List ℕ) = four_words word.x word.y word.w word.h in
     let asked : List (List ℕ) = ask_words word.asks in
     let titled : List (List ℕ) = text_word word.title ∷ [] in
     rw word.is

@@ -4,10 +4,11 @@ use Rattle.lw_grammar.specs.Script.{is_nothing_due, at_the_top, with_line, lines
 use Rattle.std.proofs.lemmas.Result.{err_from_is_err_and}
 use Rattle.lw_grammar.specs.declared.reason.Reason.{Reason}
 use Rattle.lw_grammar.specs.Lines.{lines}
+use Rattle.lw_grammar.proofs.ScriptOutcome.{line_step}
 use Rattle.lw_script.specs.declared.input.Input.{Input}
 use Rattle.lw_script.specs.declared.input.ScriptStop.{ScriptStop}
 use Rattle.lw_script.specs.Answers.{Gives}
-use Rattle.lw_script.proofs.Outcomes.{none_left, step, step_good, at_end, place_next, inputs_of, stopped, ended}
+use Rattle.lw_script.proofs.Outcomes.{none_left, step_good, at_end, place_next, inputs_of, stopped, ended}
 use Rattle.lw_script.proofs.script.read_lines.Goals as goal
 
 pub loop-line-init : goal.loop-line-init
@@ -55,7 +56,7 @@ loop-line-preserved c =
       stands = t.2;
       good = step_good s i.reached.statements line t.0 i.good t.1;
       number = ap (λ n. n + 1) i.number;
-      left = i.left ∙ ap (lines_read s i.reached) cut.1.lines ∙ step s i.reached line (lines behind) t.0 due t.1;
+      left = i.left ∙ ap (lines_read s i.reached) cut.1.lines ∙ line_step s i.reached line (lines behind) t.0 due t.1;
       place = place_next (length c.args.bytes.now) i.reached.place c.loop-line.rest.now line behind cut.1 i.short i.place;
       short = omega (arith, i.short, cut.1.shorter);
       count = omega (arith, i.count, cut.1.shorter);

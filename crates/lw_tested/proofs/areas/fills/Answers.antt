@@ -17,7 +17,7 @@ polygon_of-requires-clause-range c =
 pub returns-in-TooMany : goal.returns-in-TooMany
 returns-in-TooMany c =
     let points = c.in_ok-polygon.ensures ∙ ap (map point_meaning) c.as_slice.ensures.value in
-    let left = c.saturating_sub-left.ensures ∙ ap (λ (limits : Limits). limits.calls - c.args.reader.now.tasks.so_far) c.limits_of.ensures in
+    let left = c.saturating_sub-left.ensures ∙ ap (λ (limits : Limits). limits.calls - c.args.reader.now.tasks.calls_in_task) c.limits_of.ensures in
     spans_beyond (known c.args.reader.now) c.args.area.now c.in_ok-polygon.polygon c.saturating_sub-left.result c.in_ok-spans.field-0 c.in-TooMany.is c.in_ok-spans.ensures points left
 
 pub returns-then-has_room_for_fills : goal.returns-then-has_room_for_fills

@@ -19,17 +19,17 @@ returns c = λ above h s.
     let act = act_meaning c.args.act.now in
     let first : c.in_ok-slot.slot ≡ first_place (told above).names ls = c.in_ok-slot.ensures.first ∙ ap (λ ns. first_place ns ls) s.names in
     let second : c.in_ok-slot.other ≡ second_place (told above).names ls = c.in_ok-slot.ensures.second ∙ ap (λ ns. second_place ns ls) s.names in
-    let P : Option ℤ → Type 0 = λ o. AreNoted c.note_hook.new.used.keys (and_hook o (told above).used) in
+    let P : Option ℤ → Type 0 = λ o. AreNoted c.note_hook.new.hooks_named.keys (and_hook o (told above).hooks_named) in
     record {
       tasks = s.tasks;
       names = c.in_ok-slot.ensures.names ∙ ap (λ ns. and_names ns ls) s.names;
-      seen = s.seen;
+      names_without_slot = s.names_without_slot;
       pairs = s.pairs;
       supers = c.supers_with-self.ensures ls ∙ ap (λ n. cond (makes_super (CallLine ls act)) 1 0 + n) s.supers;
-      used = subst P (c.hook.ensures ls) (c.in_ok-note_hook.ensures (told above).used s.used);
+      hooks_named = subst P (c.hook.ensures ls) (c.in_ok-note_hook.ensures (told above).hooks_named s.hooks_named);
       group = c.group_below-self.ensures ∙ ap (left_open_by ls act) s.group;
-      began = c.began_below-self.ensures above s.began s.so_far ls;
-      so_far = ap (λ n. n + 1) s.so_far;
+      calls_before_group = c.began_below-self.ensures above s.calls_before_group s.calls_in_task ls;
+      calls_in_task = ap (λ n. n + 1) s.calls_in_task;
       calls = calls_kept above ls act _ _ _ _ _ c.requires.made s.calls first second (c.in_ok-call.ensures (told above).bitmap_names h) c.in_ok-put_last.ensures;
-      groups = groups_kept above ls act _ _ _ _ _ c.requires.made s.groups s.began s.so_far first c.in_ok-end_update.ensures;
+      groups = groups_kept above ls act _ _ _ _ _ c.requires.made s.groups s.calls_before_group s.calls_in_task first c.in_ok-end_update.ensures;
     }

@@ -10,13 +10,13 @@ returns c = λ above s.
     record {
       tasks = s.tasks;
       names = s.names;
-      seen = s.seen;
+      names_without_slot = s.names_without_slot;
       pairs = ap (map pair_meaning) c.in_ok-push.ensures.items ∙ map-append pair_meaning ps (p ∷ []) ∙ ap (λ qs. qs ++ pair_meaning p ∷ []) s.pairs;
       supers = s.supers;
-      used = s.used;
+      hooks_named = s.hooks_named;
       group = s.group;
-      began = s.began;
-      so_far = s.so_far;
+      calls_before_group = s.calls_before_group;
+      calls_in_task = s.calls_in_task;
       calls = s.calls;
       groups = s.groups;
     }

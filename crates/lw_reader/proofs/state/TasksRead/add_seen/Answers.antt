@@ -9,13 +9,13 @@ returns c = λ above s.
     record {
       tasks = s.tasks;
       names = s.names;
-      seen = ap targets c.in_ok-insert.ensures.keys ∙ targets_insert c.args.self.now.seen.keys c.args.name ∙ ap (λ ns. and_name ns c.args.name.now) s.seen;
+      names_without_slot = ap targets c.in_ok-insert.ensures.keys ∙ targets_insert c.args.self.now.names_without_slot.keys c.args.name ∙ ap (λ ns. and_name ns c.args.name.now) s.names_without_slot;
       pairs = s.pairs;
       supers = s.supers;
-      used = s.used;
+      hooks_named = s.hooks_named;
       group = s.group;
-      began = s.began;
-      so_far = s.so_far;
+      calls_before_group = s.calls_before_group;
+      calls_in_task = s.calls_in_task;
       calls = s.calls;
       groups = s.groups;
     }

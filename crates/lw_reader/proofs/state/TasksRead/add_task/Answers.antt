@@ -10,13 +10,13 @@ returns c = λ above s.
     record {
       tasks = ap targets c.in_ok-insert.ensures.keys ∙ name_added ks c.args.name c.requires.new ∙ ap (λ ns. ns ++ c.args.name.now ∷ []) s.tasks;
       names = s.names;
-      seen = s.seen;
+      names_without_slot = s.names_without_slot;
       pairs = s.pairs;
       supers = s.supers;
-      used = s.used;
+      hooks_named = s.hooks_named;
       group = s.group;
-      began = s.began;
-      so_far = refl;
+      calls_before_group = s.calls_before_group;
+      calls_in_task = refl;
       calls = begun _ _ _ c.new.result _ s.calls c.in_ok-push.ensures.items c.new.ensures.items;
       groups = begun _ _ _ c.new-2.result _ s.groups c.in_ok-push-2.ensures.items c.new-2.ensures.items;
     }

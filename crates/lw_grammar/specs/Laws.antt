@@ -1,0 +1,38 @@
+-- Laws of the grammar: reading fails at a first bad line, bytes are decided, and what they spell may be run.
+use Rattle.std.specs.Prelude.{◌≡◌, ℕ, ◌≤◌, List, Err, ◌⊎◌, All}
+use Rattle.lw_calls.specs.Plan.{IsPlan}
+use Rattle.lw_grammar.specs.declared.reason.Reason.{Reason}
+use Rattle.lw_grammar.specs.Lines.{lines}
+use Rattle.lw_grammar.specs.Script.{Setting, at_the_top, lines_read, ScriptInput, SpellsInput, IsFirstBadIn}
+
+-- Reading lines one after another fails exactly where there is a first bad line, with its number and its first reason.
+abbrev pub ReadingFailsAtFirstBadLines : Type 0
+ReadingFailsAtFirstBadLines =
+    (s : Setting) (ls : List (List ℕ)) (n : ℕ) (reason : Reason)
+    → (lines_read s at_the_top ls ≡ Err (n, reason) → IsFirstBadIn s ls n reason)
+    × (IsFirstBadIn s ls n reason → lines_read s at_the_top ls ≡ Err (n, reason))
+
+-- Bytes either have a first bad line, with one number and one reason, or they spell an input, and one only.
+pub record IsDecidedIn (s : Setting) (bytes : List ℕ) : Type 0 where
+  pub either : ((n : ℕ) × (reason : Reason) × IsFirstBadIn s (lines bytes) n reason)
+      ⊎ ((input : ScriptInput) × SpellsInput s bytes input)
+  pub not_both : (n : ℕ) (reason : Reason) (input : ScriptInput)
+      → IsFirstBadIn s (lines bytes) n reason → SpellsInput s bytes input → ⊥
+  pub one_line : (m n : ℕ) (r q : Reason)
+      → IsFirstBadIn s (lines bytes) m r → IsFirstBadIn s (lines bytes) n q → (m ≡ n) × (r ≡ q)
+  pub one_input : (p q : ScriptInput) → SpellsInput s bytes p → SpellsInput s bytes q → p ≡ q
+
+-- every input is decided
+abbrev pub InputsAreDecided : Type 0
+InputsAreDecided = (s : Setting) (bytes : List ℕ) → IsDecidedIn s bytes
+
+-- An input that may be run: its plan is one, with the hooks that were handed in, and its order names numbers that tasks may have.
+pub record IsRunnableInput (s : Setting) (input : ScriptInput) : Type 0 where
+  pub plan : IsPlan input.plan
+  pub hooks : input.plan.sizes.hooks ≡ s.hooks
+  pub order : All (λ task. task ≤ 15) input.order
+
+-- every input that bytes spell may be run
+abbrev pub SpelledInputsAreRunnable : Type 0
+SpelledInputsAreRunnable =
+    (s : Setting) (bytes : List ℕ) (input : ScriptInput) → SpellsInput s bytes input → IsRunnableInput s input
