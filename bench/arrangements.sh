@@ -47,7 +47,7 @@ least() {
     echo "$best"
 }
 
-echo "load before: $(cut -d ' ' -f 1-3 /proc/loadavg 2>/dev/null || echo unknown)"
+load before
 echo "kind layers call calls microseconds calls-a-second"
 for kind in smart simple; do
     for count in 16 64 128; do
@@ -62,4 +62,4 @@ for kind in smart simple; do
         done
     done
 done
-echo "load after: $(cut -d ' ' -f 1-3 /proc/loadavg 2>/dev/null || echo unknown)"
+load after

@@ -12,25 +12,8 @@
 set -eu
 
 bench=$(cd "$(dirname "$0")" && pwd)
-for command in Xvfb:xvfb x11perf:x11-apps; do
-    if ! command -v "${command%:*}" >/dev/null; then
-        echo "bench/beside_x.sh: the command ${command%:*} is not there; its package is ${command#*:} (apt-get install ${command#*:})" >&2
-        exit 2
-    fi
-done
-
-work=$(mktemp -d)
-server=
-finish() {
-    if [ -n "$server" ]; then kill "$server" 2>/dev/null || true; fi
-    rm -rf "$work"
-}
-trap finish EXIT
-trap 'exit 130' INT TERM
-
-load() {
-    echo "load $1: $(cut -d ' ' -f 1-3 /proc/loadavg 2>/dev/null || echo unknown)"
-}
+. "$bench/xvfb.sh"
+needs x11perf:x11-apps
 
 load before
 if [ $# -gt 0 ]; then
@@ -42,20 +25,8 @@ else
 fi
 load between
 
-# The server picks a free display, and writes its number once it answers.
-Xvfb -displayfd 3 -screen 0 1024x768x8 -nolisten tcp 3>"$work/display" 2>"$work/errors" &
-server=$!
-waited=0
-while [ ! -s "$work/display" ]; do
-    if [ "$waited" -ge 20 ] || ! kill -0 "$server" 2>/dev/null; then
-        echo "bench/beside_x.sh: Xvfb doesn't answer" >&2
-        cat "$work/errors" >&2
-        exit 2
-    fi
-    sleep 1
-    waited=$((waited + 1))
-done
-x11perf -display ":$(cat "$work/display")" -time 1 -repeat 3 -rect10 -rect100 -rect500 -line100 -scroll100 -scroll500 \
+serve
+x11perf -display "$display" -time 1 -repeat 3 -rect10 -rect100 -rect500 -line100 -scroll100 -scroll500 \
     -copywinwin100 -copypixwin100 -triangle100 -complex100 >"$work/x"
 load after
 

@@ -18,10 +18,7 @@ if [ $# -ne 0 ] && [ $# -ne 2 ]; then
     echo "usage: bench/c_desk.sh [LIBRARY BENCHES]" >&2
     exit 2
 fi
-if ! command -v Xvfb >/dev/null; then
-    echo "bench/c_desk.sh: the command Xvfb is not there; its package is xvfb (apt-get install xvfb)" >&2
-    exit 2
-fi
+. "$bench/xvfb.sh"
 if [ $# -eq 0 ]; then
     "$top/build" c >&2
     (cd "$top/crates/lw_bench_c" && rt lib >&2)
@@ -29,15 +26,6 @@ if [ $# -eq 0 ]; then
 fi
 library=$1
 benches=$2
-
-work=$(mktemp -d)
-server=
-finish() {
-    if [ -n "$server" ]; then kill "$server" 2>/dev/null || true; fi
-    rm -rf "$work"
-}
-trap finish EXIT
-trap 'exit 130' INT TERM
 
 compile() {
     program=$1
@@ -48,30 +36,14 @@ compile handle "$bench/desk/handle.c" "$bench/timing.c" "$benches" "$library"
 compile drag "$bench/desk/drag.c" "$library"
 compile drag_x "$bench/desk/drag_x.c" -lX11
 
-load() {
-    echo "load $1: $(cut -d ' ' -f 1-3 /proc/loadavg 2>/dev/null || echo unknown)"
-}
-
 load before
 status=0
 "$work/handle" || status=1
 echo
 
-# The server picks a free display, and writes its number once it answers.
-Xvfb -displayfd 3 -screen 0 1024x768x8 -nolisten tcp 3>"$work/display" 2>"$work/errors" &
-server=$!
-waited=0
-while [ ! -s "$work/display" ]; do
-    if [ "$waited" -ge 20 ] || ! kill -0 "$server" 2>/dev/null; then
-        echo "bench/c_desk.sh: Xvfb doesn't answer" >&2
-        cat "$work/errors" >&2
-        exit 2
-    fi
-    sleep 1
-    waited=$((waited + 1))
-done
+serve
 "$work/drag" >"$work/here"
-DISPLAY=":$(cat "$work/display")" "$work/drag_x" >"$work/x"
+DISPLAY=$display "$work/drag_x" >"$work/x"
 if ! cmp -s -n "$(grep -v '^|' "$work/here" | wc -c)" "$work/here" "$work/x"; then
     echo "bench/c_desk.sh: the two drags leave different screens, or damage different rectangles" >&2
     status=1

@@ -29,7 +29,7 @@ awk 'BEGIN {
     }
 }' >"$work/script"
 
-echo "load before: $(cut -d ' ' -f 1-3 /proc/loadavg 2>/dev/null || echo unknown)"
+load before
 before=$(date +%s%N)
 "$program" run <"$work/script" >"$work/report" &
 run=$!
@@ -47,4 +47,4 @@ echo "seconds $(((after - before) / 1000000000)).$(printf %03d $(((after - befor
 echo "most memory, MiB $((most / 1024))"
 echo "script, bytes $(wc -c <"$work/script")"
 echo "report, bytes $(wc -c <"$work/report")"
-echo "load after: $(cut -d ' ' -f 1-3 /proc/loadavg 2>/dev/null || echo unknown)"
+load after

@@ -14,12 +14,8 @@
 set -eu
 
 bench=$(cd "$(dirname "$0")" && pwd)
-for command in ilbmtoppm ppmtoilbm; do
-    if ! command -v "$command" >/dev/null; then
-        echo "bench/netpbm.sh: the command $command is not there; its package is netpbm (apt-get install netpbm)" >&2
-        exit 2
-    fi
-done
+. "$bench/common.sh"
+needs ilbmtoppm:netpbm ppmtoilbm:netpbm
 . "$bench/program.sh"
 
 work=$(mktemp -d)

@@ -8,14 +8,10 @@ crate=$bench/../crates/lw_bench_c
 built=$crate/out/bench
 compiler=${CC:-cc}
 
-if ! command -v rt >/dev/null; then
-    echo "bench/run.sh: the command rt is not there" >&2
-    exit 2
-fi
-if ! pkg-config --exists pixman-1 2>/dev/null; then
-    echo "bench/run.sh: pixman's library is not there; its package is libpixman-1-dev (apt-get install libpixman-1-dev)" >&2
-    exit 2
-fi
+. "$bench/common.sh"
+command -v rt >/dev/null || refuse "the command rt is not there"
+pkg-config --exists pixman-1 2>/dev/null ||
+    refuse "pixman's library is not there; its package is libpixman-1-dev (apt-get install libpixman-1-dev)"
 
 # The library takes its memory from the C library, through this file of the toolchain.
 heap=$(dirname "$(rt doc)")/c/liblibc_c.a
@@ -26,10 +22,6 @@ mkdir -p "$built"
 "$compiler" -std=c11 -D_POSIX_C_SOURCE=199309L -O2 -Wall -Wextra $(pkg-config --cflags pixman-1) \
     -o "$built/bench" "$bench"/*.c "$crate/out/liblw_bench_c.a" "$heap" $(pkg-config --libs pixman-1)
 
-# The load of the last 1, 5 and 15 minutes, before and after.
-load() {
-    echo "load $1: $(cut -d ' ' -f 1-3 /proc/loadavg 2>/dev/null || echo unknown)"
-}
 load before
 status=0
 "$built/bench" "$@" || status=$?

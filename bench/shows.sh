@@ -38,9 +38,9 @@ timed() {
     echo "$1: $(((after - before) / 1000000)) milliseconds, $(wc -c <"$work/shown") bytes"
 }
 
-echo "load before: $(cut -d ' ' -f 1-3 /proc/loadavg 2>/dev/null || echo unknown)"
+load before
 show 0 >"$work/show"
 timed "no drag"
 show 4096 >"$work/show"
 timed "4,096 drags"
-echo "load after: $(cut -d ' ' -f 1-3 /proc/loadavg 2>/dev/null || echo unknown)"
+load after

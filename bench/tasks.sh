@@ -142,7 +142,7 @@ for count in 1 2 4; do
 done
 [ -n "$processors" ] || fail "processor 0 isn't there for it"
 
-echo "load before: $(cut -d ' ' -f 1-3 /proc/loadavg 2>/dev/null || echo unknown)"
+load before
 echo "kind command tasks processors calls microseconds calls-a-second to-one-processor to-one-task |" \
     "unread-microseconds calls-a-second to-one-processor to-one-task"
 for kind in fills fronts; do
@@ -155,4 +155,4 @@ for kind in fills fronts; do
     measure 20 "$kind" replay 16 1 replay readreplay
     printed "$work/rows"
 done
-echo "load after: $(cut -d ' ' -f 1-3 /proc/loadavg 2>/dev/null || echo unknown)"
+load after
