@@ -1,5 +1,4 @@
 """Drives a page in a headless Chromium over the DevTools protocol, by two pipes and Python's own library."""
-import base64
 import json
 import os
 import select
@@ -7,13 +6,15 @@ import shutil
 import subprocess
 import tempfile
 
+from headless import Headless
+
 # (the sandbox can't start as root in a container; the page is this repository's own)
 FLAGS = ["--headless", "--no-sandbox", "--disable-gpu", "--no-first-run", "--remote-debugging-pipe", "--disable-dev-shm-usage"]
 
 SECONDS = 120
 
 
-class Browser:
+class Browser(Headless):
     def __init__(self, page, width=1300, height=1000):
         program = shutil.which("chromium") or shutil.which("chromium-browser") or shutil.which("google-chrome")
         if not program:
@@ -79,12 +80,5 @@ class Browser:
     def resize(self, width, height):
         self.ask("Emulation.setDeviceMetricsOverride", width=width, height=height, deviceScaleFactor=1, mobile=False)
 
-    def picture(self, path):
-        shot = self.ask("Page.captureScreenshot", format="png")["data"]
-        with open(path, "wb") as file:
-            file.write(base64.b64decode(shot))
-
-    def close(self):
-        self.process.terminate()
-        self.process.wait()
-        self.profile.cleanup()
+    def shot(self):
+        return self.ask("Page.captureScreenshot", format="png")["data"]

@@ -1,5 +1,4 @@
 """Drives a page in a headless Firefox by its Marionette protocol, over a socket and by Python's own library."""
-import base64
 import json
 import math
 import os
@@ -9,6 +8,7 @@ import subprocess
 import tempfile
 import time
 
+from headless import Headless
 
 # The protocol's own signs of keys.
 KEYS = {"Enter": "\ue007", "Shift": "\ue008", "ArrowLeft": "\ue012", "ArrowUp": "\ue013", "ArrowRight": "\ue014",
@@ -21,7 +21,7 @@ def free_port():
         return it.getsockname()[1]
 
 
-class Firefox:
+class Firefox(Headless):
     def __init__(self, page, width=1300, height=1000):
         program = shutil.which("firefox-esr") or shutil.which("firefox")
         if not program:
@@ -99,12 +99,5 @@ class Firefox:
         self.ask("WebDriver:Navigate", url=f"file://{path}")
         self.ask("WebDriver:SwitchToFrame", id=0)
 
-    def picture(self, path):
-        shot = self.ask("WebDriver:TakeScreenshot", full=False)["value"]
-        with open(path, "wb") as file:
-            file.write(base64.b64decode(shot))
-
-    def close(self):
-        self.process.terminate()
-        self.process.wait()
-        self.profile.cleanup()
+    def shot(self):
+        return self.ask("WebDriver:TakeScreenshot", full=False)["value"]
