@@ -1,3 +1,4 @@
 pub mod AsBox
+mod ColumnLaws
 mod HandleLaws
 mod PenLaws

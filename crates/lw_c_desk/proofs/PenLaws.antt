@@ -1,5 +1,5 @@
 -- Pens and planes of a rectangle of the screen.
-use Rattle.std.proofs.Common.{◌≡◌, ℕ, ◌*◌, Bool, true, ◌&&◌, if◌then◌else◌, List, ◌++◌, length, get_or, take, drop, ℤ, pos, ◌-ℤ◌, ◌≤ℤ◌, ◌<ℤ◌, refl, ap, sym, ◌∙◌, arith}
+use Rattle.std.proofs.Common.{◌≡◌, ℕ, ◌*◌, Bool, true, ◌&&◌, if◌then◌else◌, List, ◌++◌, length, take, drop, ℤ, pos, ◌-ℤ◌, ◌≤ℤ◌, ◌<ℤ◌, refl, ap, sym, ◌∙◌, arith}
 use Rattle.std.specs.Prelude.{int_le, int_lt, nat_le}
 use Rattle.std.proofs.lemmas.List.{take_at, drop_at}
 use Rattle.std.proofs.lemmas.Int.{ints}
@@ -7,8 +7,7 @@ use Rattle.std.proofs.lemmas.Bool.{and_parts, and_from}
 use Rattle.lw_region.specs.Rectangle.{Rectangle, within, width, height}
 use Rattle.lw_region.proofs.Within.{within_true, within_low, within_high}
 use Rattle.lw_region.proofs.Numbers.{le_of, lt_of}
-use Rattle.lw_planes.specs.Grid.{at}
-use Rattle.lw_planes.specs.Bitmap.{Bitmap, pen_at, row_at, row_bytes}
+use Rattle.lw_planes.specs.Bitmap.{Bitmap, row_bytes}
 use Rattle.lw_planes.specs.Storage.{IsStored, stored}
 use Rattle.lw_strips.specs.Strips.{IsSizeOf}
 use Rattle.lw_strips.specs.Laying.{LiesIn}
@@ -38,11 +37,6 @@ lies_in s b h x y t =
     let within_both = and_parts (within b.min_x x b.max_x) (within b.min_y y b.max_y) t in
     and_from (within (pos 0) x (pos s.width -ℤ pos 1)) (within (pos 0) y (pos s.height -ℤ pos 1))
     (inside b.min_x x b.max_x s.width low.0 high.0 within_both.0) (inside b.min_y y b.max_y s.height low.1 high.1 within_both.1)
-
--- a pen in its row
-pub pen_in_row : (b : Bitmap) (x y : ℕ) → pen_at b x y ≡ get_or (row_at b y) x 0
-unfolding at
-pen_in_row b x y = refl
 
 -- the answer where nothing is amiss
 pub part_done : (s : Sizes) (b : Bounds) (due room : ℕ) → is_ordered b ≡ true → lies_on s b ≡ true → nat_le due room ≡ true

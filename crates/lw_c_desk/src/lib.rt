@@ -8,6 +8,7 @@
 
 mod answers;
 mod calling;
+mod columns;
 mod handed;
 mod handle;
 mod held;

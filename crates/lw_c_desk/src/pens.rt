@@ -1,12 +1,13 @@
 // What C reads of the screen.
 
-ghost use Rattle.std.specs.Prelude.{◌≡◌, ◌*◌, ◌<◌, ◌≤◌, nat_le, pos, int_le, int_lt, ◌++◌, length, drop};
+ghost use Rattle.std.specs.Prelude.{◌≡◌, ◌*◌, ◌≤◌, nat_le, pos, int_le, int_lt, ◌++◌, length, drop};
 ghost use Rattle.lw_region.specs.Rectangle.{width, height};
-ghost use Rattle.lw_planes.specs.Bitmap.{row_at, row_bytes};
+ghost use Rattle.lw_planes.specs.Bitmap.{row_bytes};
 ghost use Rattle.lw_c_desk.specs.Read.{IsRead, AreSame};
 ghost use Rattle.lw_c_desk.specs.Pens.{lies_on, pens_in, ArePens, ArePlanes};
 
 use crate::answers::{BAD_RECTANGLE, CLOSED, DONE, NO_MEMORY, NO_ROOM, OUTSIDE};
+use crate::columns::{row_length, write_row};
 use crate::handle::Handle;
 use crate::writing::copy;
 use lw_c_rectangles::{Bounds, is_ordered, rect_of};
@@ -96,17 +97,6 @@ fn write_pens(planes: &Planes, out: &mut [u8])
     }
 }
 
-// Writes the pens of a row.
-fn write_row(planes: &Planes, y: u32, row: &mut [u8])
-    requires inside { y < planes.now.height }
-    requires long { length row.old ≡ planes.now.width }
-    ensures { row.new ≡ row_at planes.now y }
-{
-    for x in 0..planes.width() {
-        row[x as usize] = planes.pen(x, y);
-    }
-}
-
 /// Writes the planes of a rectangle of the screen, each row after row, as `lw_desk_open_with` takes a bitmap's, and tells how
 /// many bytes they have. Only what lies in it is composed.
 #[unsafe(no_mangle)]
@@ -160,6 +150,5 @@ fn planes(
 fn plane_bytes(depth: u32, rect: &Rect) -> usize
     ensures { result ≡ depth * height rect.now * row_bytes (width rect.now) }
 {
-    let step = (rect.width() as usize + 15) / 16 * 2;
-    depth as usize * rect.height() as usize * step
+    depth as usize * rect.height() as usize * row_length(rect.width())
 }
