@@ -2,8 +2,8 @@
 // What makes a program of the library's crate for the quick way, which compiles only programs. It makes each call of C once, so
 // that none is left out; it never runs. (Its name ends otherwise than a source's that is checked, since nothing checks it.)
 
-fn no_rect() -> lw_c_calls::Bounds {
-    lw_c_calls::Bounds {
+fn no_rect() -> lw_c_rectangles::Bounds {
+    lw_c_rectangles::Bounds {
         min_x: 0,
         min_y: 0,
         max_x: 0,
