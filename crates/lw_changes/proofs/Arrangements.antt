@@ -1,5 +1,5 @@
 -- What an arrangement of one slot's layer leaves of the others on the screen.
-use Rattle.std.proofs.Common.{◌≡◌, ℕ, ◌==◌, Bool, true, false, List, [], ◌++◌, ℤ, Option, Some, None, refl, sym, ap, subst}
+use Rattle.std.proofs.Common.{◌≡◌, ℕ, ◌==◌, Bool, true, false, ◌&&◌, List, [], ◌++◌, ℤ, Option, Some, None, refl, sym, ap, subst}
 use Rattle.std.proofs.Common.{◌∙◌, inl, inr, ⊎_elim, eqb-true}
 use Rattle.std.specs.Prelude.{if◌then◌else◌}
 use Rattle.std.proofs.lemmas.Bool.{both_ways, and_from, false_from_ne_true, eq-eqb}
@@ -8,15 +8,18 @@ use Rattle.lw_region.specs.Bands.{covers}
 use Rattle.lw_calls.specs.declared.make.Kind.{Kind}
 use Rattle.lw_calls.specs.declared.make.Kind.TheVariants.{Simple, Smart, SuperBitmap}
 use Rattle.lw_calls.specs.Kinds.{is_super}
-use Rattle.lw_machine.specs.Layer.{Layer, Slot, Unopened, Live, Closed, layer_is, is_framed, change_layer}
+use Rattle.lw_machine.specs.Layer.{Layer, Window, Slot, Unopened, Live, Closed, layer_is, is_framed, change_layer}
 use Rattle.lw_machine.specs.Desk.{Desk, is_the}
 use Rattle.lw_machine.specs.Screen.{bounds_have, top, is_shown, pen_on, pen_of_top}
 use Rattle.lw_machine.specs.Kept.{screen_place, visible_within, kept_as, is_visible}
 use Rattle.lw_machine.specs.Shapes.{differ}
-use Rattle.lw_machine.specs.Reveal.{across, settled_layer, settled}
+use Rattle.lw_machine.specs.Paint.{with_pens}
+use Rattle.lw_machine.specs.Reveal.{Across, across, revealed, keeps, framed_by, with_frame, frame_is_due, with_due_frame}
+use Rattle.lw_machine.specs.Reveal.{settled_layer, settled}
 use Rattle.lw_machine.specs.Sound.{IsDesk, IsSlot, IsPlaced, IsKeeping}
 use Rattle.lw_machine.proofs.Seen.{the_one}
-use Rattle.lw_machine.proofs.Settling.{changed_or_not}
+use Rattle.lw_machine.proofs.Settling.{changed_or_not, painted_frame, told_framed, settled_is}
+use Rattle.lw_machine.proofs.Settling.{revealed_in, revealed_plain, revealed_super}
 use Rattle.lw_machine.proofs.RevealSound.{shows}
 use Rattle.lw_changes.specs.Touched.{bounds_list, bounds_meet, is_simple, is_repainted, repainted_in, repainted}
 use Rattle.lw_changes.proofs.Places.{covers_bounds, covers_neither, found_covers, apart_uncovered}
@@ -120,12 +123,56 @@ apart_seen d a slot s r x y beside bounds apart seen =
     let off = off_both d a slot x y (apart_uncovered (around d a slot) r x y apart has) in
     ap (λ o. is_the o s) (sym (same_top d a slot x y beside off.0 off.1)) ∙ seen
 
+-- An arrangement leaves of each slot whether its layer is painted whole.
+module _ (glyphs : List (List ℕ)) (kept : ℕ → ℕ → Bool) (active : Bool) where
+  framed_by_same : (o : Option Window) (l : Layer) → is_repainted (framed_by glyphs kept active o l) ≡ is_repainted l
+  unfolding with_pens
+  framed_by_same None l = refl
+  framed_by_same (Some w) l = go w.framed
+    where
+      go : (b : Bool) → is_repainted (if b then painted_frame glyphs kept active w.title l else l) ≡ is_repainted l
+      go true = refl
+      go false = refl
+
+  framed_same : (t : Bool) (l : Layer) → is_repainted (if t then with_frame glyphs kept active l else l) ≡ is_repainted l
+  framed_same true l = framed_by_same l.window l
+  framed_same false l = refl
+
+from_revealed : (glyphs : List (List ℕ)) (c : Across) (l r : Layer) → revealed c l ≡ r → is_repainted r ≡ is_repainted l
+    → is_repainted (settled_layer glyphs c l) ≡ is_repainted l
+from_revealed glyphs c l r is same =
+    let q : Layer = with_due_frame glyphs c l r in
+    ap is_repainted (settled_is glyphs c l r is)
+    ∙ (ap (λ b. b && is_simple q.kind) (told_framed c q q.window)
+    ∙ (framed_same glyphs (keeps c r) c.new_active (frame_is_due c l r) r ∙ same))
+
+layer_repainted : (glyphs : List (List ℕ)) (c : Across) (l : Layer) → is_repainted (settled_layer glyphs c l) ≡ is_repainted l
+layer_repainted glyphs c l = go (is_super l.kind) refl
+  where
+    go : (b : Bool) → is_super l.kind ≡ b → is_repainted (settled_layer glyphs c l) ≡ is_repainted l
+    go true own = from_revealed glyphs c l l (revealed_super c l own) refl
+    go false plain = from_revealed glyphs c l (revealed_in c l) (revealed_plain c l plain) refl
+
+slot_repainted : (glyphs : List (List ℕ)) (c : Across) (q : Slot)
+    → layer_is is_repainted (change_layer (settled_layer glyphs c) q) ≡ layer_is is_repainted q
+slot_repainted glyphs c Unopened = refl
+slot_repainted glyphs c (Live l) = layer_repainted glyphs c l
+slot_repainted glyphs c Closed = refl
+
+settled_repainted : (d a : Desk) (s : ℕ) → layer_is is_repainted ((settled d a).slot s) ≡ layer_is is_repainted (a.slot s)
+settled_repainted d a s =
+    ⊎_elim
+    (λ changed. ap (layer_is is_repainted) changed ∙ slot_repainted d.assets.glyphs (across d a s) (a.slot s))
+    (λ old. ap (layer_is is_repainted) old)
+    (changed_or_not a.front_to_back (λ t layer. change_layer (settled_layer d.assets.glyphs (across d a t)) layer) a.slot s)
+
 -- A layer on top of a place that no painted frame covers isn't painted, where the activity of windows stays.
-pub unpainted_there : (d a : Desk) (slot s : ℕ) (l : Layer) (x y : ℤ) → IsDesk d → IsBeside d a slot → (s == slot) ≡ false
-    → top d x y ≡ Some s → d.slot s ≡ Live l → covers (repainted d (around d a slot)) x y ≡ false
+pub unpainted_there : (d a : Desk) (slot s : ℕ) (l : Layer) (x y : ℤ) → IsDesk d → IsBeside d a slot
+    → bounds_have (d.bounds slot) x y ≡ false → bounds_have (a.bounds slot) x y ≡ false → (s == slot) ≡ false
+    → top d x y ≡ Some s → d.slot s ≡ Live l → covers (repainted (settled d a) (around d a slot)) x y ≡ false
     → differ (is_the d.active s) (is_the a.active s) ≡ false
     → IsUnpainted (across d a s) l
-unpainted_there d a slot s l x y ok beside other is live off active = by_frame (is_framed l.window) refl
+unpainted_there d a slot s l x y ok beside before after other is live off active = by_frame (is_framed l.window) refl
   where
     t : IsThere d s l
     t = there d s l (subst (IsSlot d s) live (ok.slots s))
@@ -142,15 +189,16 @@ unpainted_there d a slot s l x y ok beside other is live off active = by_frame (
 
     meeting : is_framed l.window ≡ true → l.kind ≡ Simple → bounds_meet (around d a slot) (Some t.bounds) ≡ true → ⊥
     meeting framed simple meets =
-        let here : layer_is is_repainted (d.slot s) ≡ true =
-        ap (layer_is is_repainted) live ∙ and_from _ _ framed (ap is_simple simple) in
-        let touches : bounds_meet (around d a slot) (d.bounds s) ≡ true = ap (bounds_meet (around d a slot)) t.is ∙ meets in
-        let listed : repainted_in d (around d a slot) s ≡ bounds_list (d.bounds s) =
-        ap (λ b. if b then bounds_list (d.bounds s) else []) (and_from _ _ here touches) in
-        let on = on_top d x y s is in
-        both_ways (covers (repainted d (around d a slot)) x y) off
-        (found_covers (repainted_in d (around d a slot)) (λ k. bounds_have (d.bounds k) x y) d.front_to_back s x y on.found
-        (ap (λ rects. covers rects x y) listed ∙ (covers_bounds (d.bounds s) x y ∙ on.has)))
+        let here : layer_is is_repainted ((settled d a).slot s) ≡ true =
+        settled_repainted d a s ∙ (ap (layer_is is_repainted) (beside.slots s other ∙ live) ∙
+        and_from _ _ framed (ap is_simple simple)) in
+        let touches : bounds_meet (around d a slot) (a.bounds s) ≡ true = ap (bounds_meet (around d a slot)) now ∙ meets in
+        let listed : repainted_in (settled d a) (around d a slot) s ≡ bounds_list (a.bounds s) =
+        ap (λ b. if b then bounds_list (a.bounds s) else []) (and_from _ _ here touches) in
+        let on = on_top a x y s (same_top d a slot x y beside before after ∙ is) in
+        both_ways (covers (repainted (settled d a) (around d a slot)) x y) off
+        (found_covers (repainted_in (settled d a) (around d a slot)) (λ k. bounds_have (a.bounds k) x y) a.front_to_back s x y
+        on.found (ap (λ rects. covers rects x y) listed ∙ (covers_bounds (a.bounds s) x y ∙ on.has)))
 
     by_kind : (k : Kind) → l.kind ≡ k → is_framed l.window ≡ true → IsUnpainted (across d a s) l
     by_kind Simple simple framed =

@@ -4,5 +4,8 @@ pub mod Staying
 pub mod Screens
 pub mod Arrangements
 pub mod Covering
-pub mod Changes
+pub mod Calls
 pub mod Runs
+pub mod Refusals
+pub mod Hulls
+pub mod Insides

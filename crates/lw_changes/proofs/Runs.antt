@@ -14,7 +14,7 @@ use Rattle.lw_machine.specs.Sound.{IsDesk}
 use Rattle.lw_machine.proofs.ReachedSound.{step_sound, after_sizes}
 use Rattle.lw_changes.specs.Touched.{touched, touched_since}
 use Rattle.lw_changes.proofs.Places.{covers_neither}
-use Rattle.lw_changes.proofs.Changes.{changes_where_it_lies}
+use Rattle.lw_changes.proofs.Calls.{changes_where_it_lies}
 
 pub runs_change : (d : Desk) (es : List Entry) (x y : ℕ) → IsDesk d → All (λ e. IsTrue (call_fits d.sizes e.call)) es
     → covers (touched_since d es) (pos x) (pos y) ≡ false → pen_at (screen (machine d es)) x y ≡ pen_at (screen d) x y

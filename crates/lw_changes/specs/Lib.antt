@@ -1,2 +1,4 @@
 pub mod Touched
+pub mod Refusing
 pub mod Laws
+pub mod Changed

@@ -1,4 +1,4 @@
--- Which places of the screen a call may change, as a short list of rectangles.
+-- Which places of the screen a call may change, as a list of rectangles.
 use Rattle.std.specs.Prelude.{ℕ, Bool, true, false, ◌&&◌, if◌then◌else◌, List, [], ◌∷◌, ◌++◌, int_le, Option, Some, None}
 use Rattle.std.specs.List.{list_any, flat_map}
 use Rattle.lw_region.specs.Rectangle.{Rectangle, common_part}
@@ -109,11 +109,12 @@ frames_of (SizeBy slot dw dh) = OfThoseMet
 frames_of (SetBox slot x y w h) = OfThoseMet
 frames_of call = Unpainted
 
--- the bounds of these windows on the desk, for an arrangement within these rectangles
-abbrev pub frames : Desk → Frames → List Rectangle → List Rectangle
-frames d Unpainted rects = []
-frames d OfTheActive rects = bounds_on d d.active
-frames d OfThoseMet rects = repainted d rects
+-- The bounds of these windows where a call leads from the desk d to the desk e, for an arrangement within these rectangles: where
+-- the active one was, and where those met are, since none of them moves.
+abbrev pub frames : Desk → Desk → Frames → List Rectangle → List Rectangle
+frames d e Unpainted rects = []
+frames d e OfTheActive rects = bounds_on d d.active
+frames d e OfThoseMet rects = repainted e rects
 
 -- where the call's own layer lies before it, and after it
 abbrev pub own_places : Desk → Call → Desk → List Rectangle
@@ -122,7 +123,7 @@ own_places d call e = bounds_on d (touched_slot call) ++ bounds_on e (touched_sl
 -- The places of the screen that a call may change which leads from the desk d to the desk e: where its own layer lies before and
 -- after, and where windows lie whose frames it may paint.
 abbrev pub touched : Desk → Call → Desk → List Rectangle
-touched d call e = own_places d call e ++ frames d (frames_of call) (own_places d call e)
+touched d call e = own_places d call e ++ frames d e (frames_of call) (own_places d call e)
 
 -- all that the steps of a history touch, from the desk d on
 abbrev pub touched_since : Desk → List Entry → List Rectangle

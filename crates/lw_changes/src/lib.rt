@@ -2,10 +2,15 @@
 //! whose frames it may paint.
 #![tactic(auto)]
 
+mod changes;
 mod laws;
+mod refusing;
 mod touched;
 
+pub use changes::Changes;
 pub use laws::{
-    calls_change_what_they_touch, other_calls_leave_the_screen, runs_change_what_they_touch,
+    calls_change_what_they_touch, grown_lists_cover, grown_lists_stay,
+    other_calls_leave_the_screen, refusals_leave_the_desk, runs_change_what_they_touch,
 };
+pub use refusing::is_refusal;
 pub use touched::{Frames, frames_of, touched_slot};

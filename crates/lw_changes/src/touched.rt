@@ -13,7 +13,7 @@ pub enum Frames {
 }
 
 /// The slot of the layer that a call draws on, scrolls, or arranges: of a blit the layer into which it goes. No other call
-/// changes a pen that the screen shows.
+/// changes a pen that the screen shows. Besides that layer a call may paint frames of other windows: `frames_of` tells which.
 pub fn touched_slot(call: &Call) -> Option<u32>
     ensures { result ≡ touched_slot call.now }
 {

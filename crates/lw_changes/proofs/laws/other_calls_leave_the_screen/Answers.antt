@@ -1,4 +1,4 @@
-use Rattle.lw_changes.proofs.Changes.{others_leave}
+use Rattle.lw_changes.proofs.Calls.{others_leave}
 use Rattle.lw_changes.proofs.laws.other_calls_leave_the_screen.Goals as goal
 
 pub returns : goal.returns

@@ -143,14 +143,14 @@ covered_same d a slot x y ok beside only active off =
 -- An arrangement of a slot's layer that leaves the activity of other windows.
 arranged_same : (d a : Desk) (slot x y : ℕ) → IsDesk d → IsBeside d a slot
     → ((s : ℕ) → (s == slot) ≡ false → is_the a.active s ≡ is_the d.active s)
-    → covers (around d a slot ++ repainted d (around d a slot)) (pos x) (pos y) ≡ false
+    → covers (around d a slot ++ repainted (settled d a) (around d a slot)) (pos x) (pos y) ≡ false
     → pen_at (screen (settled d a)) x y ≡ pen_at (screen d) x y
 arranged_same d a slot x y ok beside active off =
-    let parts = covers_neither (around d a slot) (repainted d (around d a slot)) (pos x) (pos y) off in
+    let parts = covers_neither (around d a slot) (repainted (settled d a) (around d a slot)) (pos x) (pos y) off in
     let both = off_both d a slot (pos x) (pos y) parts.0 in
     same_on_screen d (settled d a) x y beside.sizes
     (arranged_pen d a slot (pos x) (pos y) ok beside both.0 both.1
-    (λ s l other is live. unpainted_there d a slot s l (pos x) (pos y) ok beside other is live parts.1
+    (λ s l other is live. unpainted_there d a slot s l (pos x) (pos y) ok beside both.0 both.1 other is live parts.1
     (ap (differ (is_the d.active s)) (active s other) ∙ alike (is_the d.active s))))
 
 -- Another window becomes active: the frames of two windows may be painted.
