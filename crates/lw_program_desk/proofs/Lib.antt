@@ -1,3 +1,4 @@
 mod TilesLaws
 mod StepLaws
 mod ReadLaws
+mod NotingLaws

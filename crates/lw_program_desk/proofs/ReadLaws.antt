@@ -1,5 +1,6 @@
 -- What the cell of a slot says is what is seen of the slot on each desk for which the parts stand.
-use Rattle.std.proofs.Common.{◌≡◌, ℕ, ◌<◌, List, get_or, ℤ, Option, Some, None, option_map, ◌∙◌, refl, sym, ap, subst, arith}
+use Rattle.std.proofs.Common.{◌≡◌, ℕ, ◌<◌, false, List, get_or, ℤ, Option, Some, None, option_map, ◌∙◌, refl}
+use Rattle.std.proofs.Common.{sym, ap, subst, arith}
 use Rattle.std.proofs.lemmas.List.FromFn.{get_or-map-range_with_len}
 use Rattle.lw_region.specs.Rectangle.{Rectangle}
 use Rattle.lw_region.specs.Bands.{bands, covers}
@@ -9,11 +10,14 @@ use Rattle.lw_calls.specs.declared.sizes.Sizes.{Sizes}
 use Rattle.lw_calls.specs.declared.last.Seen.{Seen}
 use Rattle.lw_damage.specs.Damaged.{Damaged}
 use Rattle.lw_machine.specs.Desk.{Desk}
+use Rattle.lw_machine.specs.Layer.{layer_is}
 use Rattle.lw_machine.specs.Parts.{slot_part}
 use Rattle.lw_machine.specs.Finals.{damage_set, port_of, seen_of}
 use Rattle.lw_layer.specs.View.{State, LiveView, CellView}
 use Rattle.lw_layer.specs.View as view
+use Rattle.lw_layer.specs.StandsFor.{IsPartOf, StandsFor as StandsForPart}
 use Rattle.lw_layer.specs.Pieces.{IsDamageOf}
+use Rattle.lw_changes.specs.Touched.{is_repainted}
 use Rattle.lw_layer.proofs.SoundLaws.{live_part}
 use Rattle.lw_stack.specs.Stack.{Stack, is_top_in}
 use Rattle.lw_stack.proofs.ListLaws.{shown_is_top}
@@ -112,6 +116,32 @@ module _ (sizes : Sizes) (assets : Assets) (p : PartsView) (d : Desk) (slot : �
 
   pub messages_told : (l : LiveView) → IsLayerIn (cell_at cells slot) l → messages_in d slot ≡ port_of l.layer.window
   messages_told l is = ap port_in (layer_seen l is)
+
+  -- whether its frame is painted whole
+  cell_part : StandsForPart (cell_at p.cells slot) (slot_part d slot)
+  cell_part =
+      let desk = layers_of_desk sizes assets p.info p.cells d are.layers in
+      desk.slots slot (subst (λ (z : Sizes). slot < z.slots) (sym are.layers.info.sizes) low)
+
+  pub none_repainted : ((cell_at cells slot).state ≡ view.Live → ⊥) → layer_is is_repainted (d.slot slot) ≡ false
+  none_repainted idle =
+      by_state (cell_at p.cells slot).state (cell_at p.cells slot).live
+      (subst (λ (all : List CellView). (cell_at all slot).state ≡ view.Live → ⊥) same idle) cell_part
+    where
+      by_state : (s : State) (l : LiveView) → (s ≡ view.Live → ⊥) → IsPartOf s l (slot_part d slot)
+          → layer_is is_repainted (d.slot slot) ≡ false
+      by_state view.Unopened l idle part = ap (layer_is is_repainted) part.0
+      by_state view.Live l idle part = absurd (idle refl)
+      by_state view.Closed l idle part = ap (layer_is is_repainted) part.0
+
+  pub layer_repainted : (l : LiveView) → IsLayerIn (cell_at cells slot) l
+      → is_repainted l.layer ≡ layer_is is_repainted (d.slot slot)
+  layer_repainted l is =
+      let cell = ap (λ (all : List CellView). cell_at all slot) same in
+      let live = ap (λ (c : CellView). c.state) (sym cell) ∙ is.live in
+      let part = live_part (cell_at p.cells slot) (slot_part d slot) live cell_part in
+      sym (ap (layer_is is_repainted) part.slot
+      ∙ (ap (λ (c : CellView). is_repainted c.live.layer) (sym cell) ∙ ap (λ (k : LiveView). is_repainted k.layer) is.layer))
 
 -- LayerInfo and the cells as they are lent
 pub lent_layers : (sizes : Sizes) (assets : Assets) (p : PartsView) (d : Desk) (info : InfoView) (cells : List CellView)

@@ -1,11 +1,11 @@
 -- Tiles that a program hands in are a hook, and fill with their pens.
-use Rattle.std.proofs.Common.{◌≡◌, ◌∙◌, ap, sym, subst, ℕ, ◌+◌, ◌-◌, ◌*◌, ◌/◌, ◌%◌, ◌<◌, ◌≤◌, ◌==◌, if◌then◌else◌, List, [], length, map, take, drop, get_or, ℤ, Bool, false, refl, arith}
-use Rattle.std.specs.List.{All, range_with_len, slice_index_or}
+use Rattle.std.proofs.Common.{◌≡◌, ◌∙◌, ap, sym, subst, ℕ, ◌+◌, ◌-◌, ◌*◌, ◌/◌, ◌%◌, ◌<◌, ◌==◌, if◌then◌else◌, List, [], length, drop, get_or, ℤ, arith}
+use Rattle.std.specs.List.{All}
 use Rattle.std.proofs.lemmas.List.{get_or-take, get_or-drop, get_or_default, length-take-le, length-drop}
 use Rattle.std.proofs.lemmas.List.Elements.{All-take, All-drop, All-from_get_or}
 use Rattle.std.proofs.lemmas.List.FromFn.{get_or-map-range_with_len, length-map-range_with_len}
 use Rattle.std.proofs.lemmas.Bool.Decides.{nat_tests}
-use Rattle.lw_machine.specs.Hook.{Hook, hook_pen, tile_place, turned}
+use Rattle.lw_machine.specs.Hook.{hook_pen, tile_place, turned}
 use Rattle.lw_backfill.specs.Hooks.{IsTile, IsHook}
 use Rattle.lw_program_desk.specs.Tiles.{tile_in, tiles_at}
 

@@ -4,6 +4,7 @@
 
 mod held;
 mod limits;
+mod noting;
 mod program_desk;
 mod reading;
 mod tiles;

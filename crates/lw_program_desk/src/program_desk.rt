@@ -1,16 +1,22 @@
-ghost use Rattle.std.specs.Prelude.{◌≡◌, false, map, List, IsTrue, IsOk, IfOk, OnErr, IsErrOf, ◌↔◌};
+ghost use Rattle.std.specs.Prelude.{◌≡◌, ◌≤◌, true, false, map, List, [], length, IsTrue, IsOk, IfOk, OnOk, OnErr, IsErrOf, ◌↔◌};
 ghost use Rattle.lw_calls.specs.Limits.{IsWithinLimits, call_fits};
 ghost use Rattle.lw_machine.specs.Desk.{Desk as MachineDesk, empty_desk, shelf_of};
 ghost use Rattle.lw_machine.specs.Step.{after, reply};
 ghost use Rattle.lw_engine_trait.specs.Memory.{takes_memory};
-ghost use Rattle.lw_program_desk.specs.Views.{DeskView, StandsFor, PartsAre};
+ghost use Rattle.lw_machine.specs.Screen.{screen_bounds};
+ghost use Rattle.lw_changes.specs.Changed.{has_all};
+ghost use Rattle.lw_changes.specs.Touched.{touched_slot, bounds_list, bounds_on, touched};
+ghost use Rattle.lw_program_desk.specs.Views.{DeskView, StandsFor, PartsAre, with_changes};
 ghost use Rattle.lw_program_desk.specs.Standing.{IsStep, StandsStill};
+ghost use Rattle.lw_program_desk.specs.Noting.{AreNoted, IsNoted};
 
 use crate::held::{AfterStep, Held, make_step};
 use crate::tiles::Tiles;
 use lw_backfill::Backfill;
 use lw_calls::{Assets, Call, Reply, Sizes};
+use lw_changes::{Changes, is_refusal, touched_slot};
 use lw_engine::LayerEngine;
+use lw_region::Rect;
 use lw_runs::Parts;
 use std::alloc::{AllocError, Global};
 use std::marker::Model;
@@ -22,6 +28,8 @@ pub struct ProgramDesk {
     assets: Assets,
     // Always there between calls: a call takes the parts, and puts them back.
     held: Option<Held>,
+    // Where the screen may have changed since the list was empty.
+    changes: Changes,
 }
 
 impl Model for ProgramDesk {
@@ -29,9 +37,9 @@ impl Model for ProgramDesk {
 
     ghost Value = { DeskView };
 
-    ghost view = { λ p. record { sizes = p.sizes; assets = p.assets; held = p.held } };
+    ghost view = { λ p. record { sizes = p.sizes; assets = p.assets; held = p.held; changes = p.changes } };
 
-    ghost invariant = { λ p. IsKept (record { sizes = p.sizes; assets = p.assets; held = p.held }) };
+    ghost invariant = { λ p. IsKept (record { sizes = p.sizes; assets = p.assets; held = p.held; changes = p.changes }) };
 }
 
 impl ProgramDesk {
@@ -48,18 +56,28 @@ impl ProgramDesk {
         ensures sizes { IfOk result (λ made. made.sizes ≡ sizes) }
         ensures desk { IfOk result (λ made. StandsFor made
             (empty_desk sizes assets (shelf_of (map (λ h. ⟦<Tiles as Backfill>⟧.hook h) hooks.items)))) }
+        ensures changes { IfOk result (λ made. made.changes ≡ []) }
     {
         let held = opened(alloc, sizes, &assets, hooks)?;
         Ok(ProgramDesk {
             sizes,
             assets,
             held: Some(held),
+            changes: Changes::new(),
         })
     }
 
     /// The sizes that it was opened with.
     pub fn sizes(&self) -> &Sizes
         ensures { result.now ≡ self.now.sizes }
+    {
+        &self.sizes
+    }
+
+    // The same, with what a desk keeps of them.
+    pub(crate) fn limited_sizes(&self) -> &Sizes
+        ensures value { result.now ≡ self.now.sizes }
+        ensures limits { IsWithinLimits self.now.sizes }
     {
         &self.sizes
     }
@@ -76,13 +94,34 @@ impl ProgramDesk {
     }
 
     /// Makes one call, which has to fit the sizes, and gives its reply. A call that takes no memory can't fail; any other fails
-    /// only when out of memory, and the desk then stands for what it stood for.
+    /// only when out of memory, and the desk then stands for what it stood for. Where the call changes the screen is noted.
     pub fn call(&mut self, alloc: Global, call: &Call) -> Result<Reply, AllocError>
         requires fits { IsTrue (call_fits self.old.sizes call.now) }
         ensures step { IfOk result (λ r. IsStep self.old call.now r self.new) }
         ensures unchanged { OnErr result (StandsStill self.old self.new) }
         ensures sizes { self.new.sizes ≡ self.old.sizes }
         ensures memory { takes_memory call.now ≡ false → IsOk result }
+        ensures noted { OnOk result (IsNoted self.old call.now self.new) }
+        ensures as_before { OnErr result (self.new.changes ≡ self.old.changes) }
+    {
+        let own = self.bounds_of(touched_slot(call));
+        let active = self.bounds_of(self.active());
+        let reply = self.step(alloc, call)?;
+        if is_refusal(&reply) {
+            return Ok(reply);
+        }
+        self.note(call, &own, &active);
+        Ok(reply)
+    }
+
+    // Makes a call and notes nothing.
+    fn step(&mut self, alloc: Global, call: &Call) -> Result<Reply, AllocError>
+        requires fits { IsTrue (call_fits self.old.sizes call.now) }
+        ensures step { IfOk result (λ r. IsStep self.old call.now r self.new) }
+        ensures unchanged { OnErr result (StandsStill self.old self.new) }
+        ensures sizes { self.new.sizes ≡ self.old.sizes }
+        ensures memory { takes_memory call.now ≡ false → IsOk result }
+        ensures changes { self.new.changes ≡ self.old.changes }
     {
         let Some(held) = self.held.take() else {
             unreachable!();
@@ -90,6 +129,35 @@ impl ProgramDesk {
         let AfterCall { held, told } = make_call(alloc, self.sizes, &self.assets, held, call);
         self.held = Some(held);
         told
+    }
+
+    /// The rectangles that were noted since the list was empty: at most 16, which lie on the screen. Outside them each pixel shows
+    /// the pen that it showed then.
+    pub fn changes(&self) -> &[Rect]
+        ensures value { result.now ≡ self.now.changes }
+        ensures few { length self.now.changes ≤ 16 }
+        ensures on_screen { has_all (screen_bounds self.now.sizes) self.now.changes ≡ true }
+    {
+        self.changes.rects()
+    }
+
+    /// Forgets them all.
+    pub fn forget_changes(&mut self)
+        ensures { self.new ≡ with_changes self.old [] }
+    {
+        self.changes.clear();
+    }
+
+    // Notes what a call touched that led to this desk, by where its layer and the active window were before it.
+    fn note(&mut self, call: &Call, own: &Option<Rect>, active: &Option<Rect>)
+        ensures kept { self.new ≡ with_changes self.old self.new.changes }
+        ensures noted { (d e : MachineDesk) → StandsFor self.old e → bounds_list own.now ≡ bounds_on d (touched_slot call.now)
+            → bounds_list active.now ≡ bounds_on d d.active
+            → AreNoted self.old.sizes (touched d call.now e) self.old.changes self.new.changes }
+    {
+        let mut changes = self.changes.copy();
+        self.note_in(call, own, active, &mut changes);
+        self.changes = changes;
     }
 }
 

@@ -30,7 +30,7 @@ impl ProgramDesk {
         info.info().order()
     }
 
-    /// The bounds of a slot's layer in places of the screen, off which they may lie; `None` exactly where it has no layer.
+    /// The bounds of a slot's layer in screen coordinates; they may lie off the screen. `None` exactly where it has no layer.
     pub fn bounds(&self, slot: u32) -> Option<Rect>
         ensures { (d : MachineDesk) → StandsFor self.now d → result ≡ d.bounds slot }
     {
@@ -87,7 +87,7 @@ impl ProgramDesk {
 }
 
 // The layer of a slot; `None` exactly where it has none.
-fn layer_in(slots: &[Slot<Tiles>], slot: u32) -> Option<&Layer>
+pub(crate) fn layer_in(slots: &[Slot<Tiles>], slot: u32) -> Option<&Layer>
     requires { slot < length slots.now }
     ensures { MatchOption result
         ((cell_at slots.now slot).state ≡ view.Live → ⊥) (λ l. IsLayerIn (cell_at slots.now slot) l.now) }

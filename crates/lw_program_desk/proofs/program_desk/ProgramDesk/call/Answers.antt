@@ -1,20 +1,30 @@
-use Rattle.std.proofs.Common.{◌≡◌, ◌∙◌, Some, sym, subst, OnErr}
-use Rattle.lw_program_desk.specs.Views.{DeskView}
-use Rattle.lw_program_desk.specs.Standing.{StandsStill}
-use Rattle.lw_program_desk.proofs.StepLaws.{with_parts, kept_after, still_after}
+use Rattle.std.proofs.Common.{◌∙◌, List, sym, ap, subst}
+use Rattle.lw_region.specs.Rectangle.{Rectangle}
+use Rattle.lw_machine.specs.Step.{after}
+use Rattle.lw_changes.specs.Touched.{bounds_on, touched}
+use Rattle.lw_program_desk.specs.Noting.{AreNoted}
+use Rattle.lw_program_desk.proofs.StepLaws.{step_with}
+use Rattle.lw_program_desk.proofs.NotingLaws.{noted_on, rest_shown, refused_shows}
 use Rattle.lw_program_desk.proofs.program_desk.ProgramDesk.call.Goals as goal
 
-pub invariant_of-self : goal.invariant_of-self
-invariant_of-self c =
-    let f = c.self.inside in
-    let v : DeskView = record { sizes = f.sizes; assets = f.assets; held = f.held } in
-    let held : f.held ≡ Some c.in-Some.held = sym c.take.ensures.value ∙ c.in-Some.is in
-    kept_after v c.args.call.now c.in-Some.held c.make_call-held.result.held c.make_call-held.result.told held c.self.invariant c.make_call-held.ensures.step c.make_call-held.ensures.unchanged
+pub returns-clause-step : goal.returns-clause-step
+returns-clause-step c =
+    step_with c.args.self.now c.step.new.self c.note.new.self c.args.call.now c.in_ok-reply.reply
+    (c.in_ok-reply.ensures {u = tt}).step c.note.ensures.kept
 
-pub returns-clause-unchanged : goal.returns-clause-unchanged
-returns-clause-unchanged c =
-    let f = c.self.inside in
-    let v : DeskView = record { sizes = f.sizes; assets = f.assets; held = f.held } in
-    let held : f.held ≡ Some c.in-Some.held = sym c.take.ensures.value ∙ c.in-Some.is in
-    subst (λ (w : DeskView). OnErr c.make_call-held.result.told (StandsStill w (with_parts v c.make_call-held.result.held))) c.self.view_is
-    (still_after v c.in-Some.held c.make_call-held.result.held c.make_call-held.result.told held c.make_call-held.ensures.unchanged)
+pub returns-clause-noted : goal.returns-clause-noted
+returns-clause-noted c = λ d stands.
+    let made = c.in_ok-reply.ensures {u = tt} in
+    let there = touched d c.args.call.now (after d 0 c.args.call.now) in
+    let noted = c.note.ensures.noted d (after d 0 c.args.call.now) (made.step d stands).1
+    (c.bounds_of-own.ensures d stands ∙ ap (bounds_on d) c.touched_slot.ensures)
+    (c.bounds_of-active.ensures d stands ∙ ap (bounds_on d) (c.active.ensures d stands)) in
+    rest_shown c.args.self.now.sizes d c.args.call.now c.args.self.now.changes c.note.new.self.changes stands.stand.layers.desk.sound
+    (subst (λ (old : List Rectangle). AreNoted c.args.self.now.sizes there old c.note.new.self.changes) made.changes
+    (noted_on c.step.new.self.sizes c.args.self.now.sizes there c.step.new.self.changes c.note.new.self.changes made.sizes noted))
+
+pub returns-then-is_refusal-clause-noted : goal.returns-then-is_refusal-clause-noted
+returns-then-is_refusal-clause-noted c = λ d stands.
+    let made = c.in_ok-reply.ensures {u = tt} in
+    refused_shows c.args.self.now.sizes d c.args.call.now c.in_ok-reply.reply c.args.self.now.changes c.step.new.self.changes
+    (made.step d stands).0 (sym c.is_refusal.ensures ∙ c.if-is_refusal.true) made.changes
