@@ -223,10 +223,11 @@ int32_t lw_desk_close(struct lw_desk *desk);
 int32_t lw_desk_call(struct lw_desk *desk, const struct lw_call *call, const uint8_t *text, size_t text_count,
                      struct lw_reply *reply, struct lw_rectangle *rects, size_t rects_count);
 
-/* ---- Readers. Each leaves the desk as it is, and tells how it is after the calls that were done. Without a desk all answer
- * LW_CLOSED; those of a slot answer LW_UNFIT where the desk has no such slot, and LW_NO_LAYER where the slot has no layer. Those
- * that write a list to `out` set `count` to its length, and answer LW_NO_ROOM where that is above `out_count`; what lies behind
- * the list in `out` stays. Only lw_desk_pens and lw_desk_planes take memory, and answer LW_NO_MEMORY. ---- */
+/* ---- Readers. Each leaves the desk as it is, but for lw_desk_changed, and tells how it is after the calls that were done.
+ * Without a desk all answer LW_CLOSED; those of a slot answer LW_UNFIT where the desk has no such slot, and LW_NO_LAYER where the
+ * slot has no layer. Those that write a list to `out` set `count` to its length, and answer LW_NO_ROOM where that is above
+ * `out_count`; what lies behind the list in `out` stays. Only lw_desk_pens and lw_desk_planes take memory, and answer
+ * LW_NO_MEMORY. ---- */
 
 /* The slots of the layers, from the front to the back. */
 int32_t lw_desk_layers(struct lw_desk *desk, uint32_t *out, size_t out_count, size_t *count);
@@ -243,6 +244,12 @@ int32_t lw_desk_damage(struct lw_desk *desk, uint32_t slot, struct lw_rectangle 
 /* The messages of lw_message that wait for a window, from the oldest, a byte each; lw_get_message takes them. LW_NO_WINDOW where
  * the slot has a layer that is no window. */
 int32_t lw_desk_messages(struct lw_desk *desk, uint32_t slot, uint8_t *out, size_t out_count, size_t *count);
+
+/* Where the screen changed: each of its pixels that lies in none of these rectangles shows the pen that it showed when this last
+ * answered LW_DONE, or when the desk was opened. They lie on the screen, may overlap, are 16 at most, and may have pixels that
+ * didn't change. So a program that reads the list into room for 16, and copies each rectangle, as lw_desk_pens reads it, to a
+ * picture that was the screen's, has the screen's again. LW_DONE empties the list, LW_NO_ROOM keeps it. */
+int32_t lw_desk_changed(struct lw_desk *desk, struct lw_rectangle *out, size_t out_count, size_t *count);
 
 /* The pens of a rectangle of the screen, row by row, a byte each: those of the layers that are shown there, and 0 where none is.
  * In this order it answers LW_BAD_RECTANGLE; LW_OUTSIDE where the rectangle doesn't lie on the screen; LW_NO_ROOM where it has

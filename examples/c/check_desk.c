@@ -204,6 +204,7 @@ static void closed(void)
     LISTS(lw_desk_visible(&desk, 0, rects, 1, &count), LW_CLOSED, 77);
     LISTS(lw_desk_damage(&desk, 0, rects, 1, &count), LW_CLOSED, 77);
     LISTS(lw_desk_messages(&desk, 0, bytes, 1, &count), LW_CLOSED, 77);
+    LISTS(lw_desk_changed(&desk, rects, 1, &count), LW_CLOSED, 77);
     IS(lw_desk_pens(&desk, &part, bytes, 1), LW_CLOSED);
     LISTS(lw_desk_planes(&desk, &part, bytes, 1, &count), LW_CLOSED, 77);
     IS(slots[0], 77);
@@ -383,6 +384,106 @@ static void read_messages(void)
     IS_RECT(rects[1], 0, 7, 7, 7);
 }
 
+/* ---- Where the screen changed, on a desk of 64 by 32 pixels. Layer i of 17 has columns 3i and 3i + 1, rows 0 and 1. ---- */
+static struct lw_rectangle changes[17];
+
+#define CHANGES(length) LISTS(lw_desk_changed(&desk, changes, 16, &count), LW_DONE, length)
+
+static void create_small(uint32_t slot)
+{
+    int32_t x = 3 * (int32_t)slot;
+    IS(lw_create_upfront_layer(&desk, slot, x, 0, x + 1, 1, LW_SMART), LW_OK);
+}
+
+/* A list as long as it can be: it's kept where there is no room, and read but once. */
+static void read_sixteen(void)
+{
+    CHANGES(0);
+    for (uint32_t slot = 0; slot < 16; slot++)
+        create_small(slot);
+    changes[0] = changes[16] = bounds_of(7, 7, 7, 7);
+    LISTS(lw_desk_changed(&desk, changes, 15, &count), LW_NO_ROOM, 16);
+    IS_RECT(changes[0], 7, 7, 7, 7);
+    CHANGES(16);
+    for (int16_t i = 0; i < 16; i++)
+        IS_RECT(changes[i], 3 * i, 0, 3 * i + 1, 1);
+    IS_RECT(changes[16], 7, 7, 7, 7);
+    CHANGES(0);
+    LISTS(lw_desk_changed(&desk, changes, 0, &count), LW_DONE, 0);
+    create_small(16);
+    CHANGES(1);
+    IS_RECT(changes[0], 48, 0, 49, 1);
+}
+
+/* One rectangle has all where 16 aren't enough. What lies in another isn't listed again. */
+static void read_many(void)
+{
+    for (uint32_t slot = 0; slot < 17; slot++)
+        IS(lw_set_rast(&desk, slot, 1), LW_OK);
+    CHANGES(1);
+    IS_RECT(changes[0], 0, 0, 49, 1);
+    IS(lw_rect_fill(&desk, 0, 0, 0, 1, 1), LW_OK);
+    IS(lw_write_pixel(&desk, 0, 1, 1), LW_OK);
+    CHANGES(1);
+    IS_RECT(changes[0], 0, 0, 1, 1);
+}
+
+/* A layer changes the screen where it lay and where it lies, of which only what is on the screen is listed; and other calls
+ * change none of it. */
+static void read_moves(void)
+{
+    IS(lw_move_layer(&desk, 3, 1, 4), LW_OK);
+    CHANGES(2);
+    IS_RECT(changes[0], 9, 0, 10, 1);
+    IS_RECT(changes[1], 10, 4, 11, 5);
+    IS(lw_move_layer(&desk, 0, -1, 2), LW_OK);
+    CHANGES(2);
+    IS_RECT(changes[0], 0, 0, 1, 1);
+    IS_RECT(changes[1], 0, 2, 0, 3);
+    IS(lw_move_layer(&desk, 0, -1, 0), LW_OK);
+    CHANGES(1);
+    IS_RECT(changes[0], 0, 2, 0, 3);
+    IS(lw_set_a_pen(&desk, 3, 2), LW_OK);
+    SAYS(lw_read_pixel(&desk, 3, 0, 0, &number), LW_PEN, 1);
+    SAYS(lw_which_layer(&desk, 10, 4, &number), LW_LAYER, 3);
+    IS(lw_upfront_layer(&desk, 17), LW_NOT_OPEN);
+    CHANGES(0);
+}
+
+/* Window 17 has columns 0 to 29 and rows 10 to 29. Its frame may be painted where a layer is moved over it. */
+static void read_frames(void)
+{
+    struct lw_make make = lw_new_make(0, 10, 29, 29, LW_SIMPLE);
+    IS(lw_open_window(&desk, 17, &make, true, false, 0, "w"), LW_OK);
+    CHANGES(1);
+    IS_RECT(changes[0], 0, 10, 29, 29);
+    IS(lw_activate_window(&desk, 17), LW_OK);
+    IS(lw_set_window_title(&desk, 17, "v"), LW_OK);
+    CHANGES(1);
+    IS_RECT(changes[0], 0, 10, 29, 29);
+    IS(lw_upfront_layer(&desk, 16), LW_OK);
+    IS(lw_move_layer(&desk, 16, -46, 12), LW_OK);
+    CHANGES(3);
+    IS_RECT(changes[0], 48, 0, 49, 1);
+    IS_RECT(changes[1], 2, 12, 3, 13);
+    IS_RECT(changes[2], 0, 10, 29, 29);
+}
+
+static void read_changes(void)
+{
+    static struct lw_glyphs glyphs;
+    struct lw_sizes sizes = {64, 32, 2, 18};
+    IS(lw_desk_open(&desk, &sizes, &glyphs), LW_OK);
+    read_sixteen();
+    read_many();
+    read_moves();
+    read_frames();
+    IS(lw_desk_close(&desk), LW_OK);
+    IS(lw_desk_open(&desk, &sizes, &glyphs), LW_OK);
+    CHANGES(0);
+    IS(lw_desk_close(&desk), LW_OK);
+}
+
 /* Each answer has words of its own. */
 static void tell(void)
 {
@@ -415,5 +516,6 @@ int main(void)
     read_pens();
     read_messages();
     IS(lw_desk_close(&desk), LW_OK);
+    read_changes();
     return 0;
 }

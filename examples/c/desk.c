@@ -1,6 +1,6 @@
 /* Three windows on a desk of 160 by 100 pixels with 2 bit planes. The front one is dragged over the others for 100 steps. What a
  * window lost while it was covered is its damage; between begin and end nothing else of it can be drawn on. Every tenth picture
- * is written as PPM: desk DIRECTORY. */
+ * is written as PPM, and only what changed since the one before is read: desk DIRECTORY. */
 #include "ppm.h"
 #include <layers.h>
 
@@ -27,13 +27,27 @@ static void redraw(uint32_t window)
     must(lw_end_update(&desk, window, true));
 }
 
+/* The screen as it was when the list of its changes was last read; nothing was shown before. */
+static uint8_t picture[WIDTH * HEIGHT];
+
+static void copy_rectangle(const struct lw_rectangle *part)
+{
+    static uint8_t pens[WIDTH * HEIGHT];
+    size_t width = (size_t)(part->max_x - part->min_x + 1);
+    must(lw_desk_pens(&desk, part, pens, sizeof pens));
+    for (int y = part->min_y; y <= part->max_y; y++)
+        memcpy(picture + y * WIDTH + part->min_x, pens + (size_t)(y - part->min_y) * width, width);
+}
+
 static void write_picture(const char *directory, int number)
 {
     static const char colours[4][4] = {"\x20\x40\x60", "\x00\x22\x44", "\xff\xff\xff", "\xff\x88\x00"};
-    static uint8_t pens[WIDTH * HEIGHT];
-    static const struct lw_rectangle screen = {0, 0, WIDTH - 1, HEIGHT - 1};
-    must(lw_desk_pens(&desk, &screen, pens, sizeof pens));
-    write_ppm(directory, "desk", number, WIDTH, HEIGHT, pens, colours);
+    struct lw_rectangle changed[16];
+    size_t count;
+    must(lw_desk_changed(&desk, changed, 16, &count));
+    for (size_t i = 0; i < count; i++)
+        copy_rectangle(&changed[i]);
+    write_ppm(directory, "desk", number, WIDTH, HEIGHT, picture, colours);
 }
 
 int main(int count, char **words)

@@ -1,6 +1,6 @@
 /* A few calls on a desk, over and over, with the first allocation refused, then the second, and so on until none is left to
- * refuse. The call that lacked memory says so, and made again it does what it would have done. Linked with
- * -Wl,--wrap=malloc,--wrap=realloc. */
+ * refuse. The call that lacked memory says so, lists no change of the screen, and made again it does what it would have done.
+ * Linked with -Wl,--wrap=malloc,--wrap=realloc. */
 #include <layers.h>
 #include <stdio.h>
 #include <stdlib.h>
@@ -30,11 +30,21 @@ void *__wrap_realloc(void *block, size_t bytes)
     return is_refused() ? NULL : __real_realloc(block, bytes);
 }
 
+/* How many rectangles the list of changes has, which stay there; 0 without a desk. */
+static size_t listed(struct lw_desk *desk)
+{
+    struct lw_rectangle none[1];
+    size_t count = 0;
+    lw_desk_changed(desk, none, 0, &count);
+    return count;
+}
+
 /* The call, and the same again where memory was refused it. */
 #define MUST(call)                                                                             \
     do {                                                                                       \
+        size_t had = listed(&desk);                                                            \
         int32_t answer = call;                                                                 \
-        if (answer == LW_NO_MEMORY && was_refused)                                             \
+        if (answer == LW_NO_MEMORY && was_refused && listed(&desk) == had)                     \
             answer = call;                                                                     \
         if (answer != LW_OK) {                                                                 \
             fprintf(stderr, "no_memory: line %d answered %d\n", __LINE__, (int)answer);        \
@@ -53,6 +63,7 @@ static void play(void)
     struct lw_rectangle part = {0, 0, 63, 31};
     struct lw_make make = lw_new_make(8, 8, 47, 23, LW_SIMPLE);
     struct lw_desk desk = LW_NO_DESK;
+    struct lw_rectangle changed[16];
     size_t count;
     make.has_hook = true;
     tiles[9] = 3;
@@ -66,6 +77,7 @@ static void play(void)
     MUST(lw_text(&desk, 1, "abc"));
     MUST(lw_desk_pens(&desk, &part, out, sizeof out));
     MUST(lw_desk_planes(&desk, &part, out, sizeof out, &count));
+    MUST(lw_desk_changed(&desk, changed, 16, &count));
     MUST(lw_delete_layer(&desk, 1));
     MUST(lw_desk_close(&desk));
 }

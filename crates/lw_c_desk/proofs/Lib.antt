@@ -2,3 +2,4 @@ pub mod AsBox
 mod ColumnLaws
 mod HandleLaws
 mod PenLaws
+mod ChangeLaws

@@ -7,6 +7,7 @@ use Rattle.lw_calls.specs.Limits.{call_fits}
 use Rattle.lw_engine_trait.specs.Memory.{takes_memory}
 use Rattle.lw_program_desk.specs.Views.{DeskView}
 use Rattle.lw_program_desk.specs.Standing.{IsStep, StandsStill}
+use Rattle.lw_program_desk.specs.Noting.{IsNoted}
 use Rattle.lw_c_rectangles.specs.declared.bounds.Bounds.{Bounds}
 use Rattle.lw_c_calls.specs.declared.replies.ReplyWords.{ReplyWords}
 use Rattle.lw_c_calls.specs.Meant.{has_text}
@@ -65,20 +66,22 @@ abbrev pub takes_some : Sizes → Option Call → Bool
 takes_some sizes None = false
 takes_some sizes (Some call) = has_text call || (call_fits sizes call && takes_memory call)
 
--- The desk made the step of this call, and its reply is told.
+-- The desk made the step of this call, and its reply is told. Its list notes where the screen changed.
 pub record IsStepTold (call : Call) (old new : DeskView) (reply : ReplyWords) (old_rects new_rects : List Bounds) : Type 0 where
   pub said : Reply
   pub step : IsStep old call said new
   pub is_told : reply ≡ told said
   pub written : new_rects ≡ rects_written said old_rects
+  pub noted : IsNoted old call new
 
 abbrev pub IsDone : Option Call → DeskView → DeskView → ReplyWords → List Bounds → List Bounds → Type 0
 IsDone None old new reply old_rects new_rects = ⊥
 IsDone (Some call) old new reply old_rects new_rects = IsStepTold call old new reply old_rects new_rects
 
--- nothing that C sees changed, and the desk stands for what it stood for
+-- nothing that C sees changed, nor the list, and the desk stands for what it stood for
 pub record IsKept (old new : DeskView) (old_reply new_reply : ReplyWords) (old_rects new_rects : List Bounds) : Type 0 where
   pub desk : StandsStill old new
+  pub changes : new.changes ≡ old.changes
   pub reply : new_reply ≡ old_reply
   pub rects : new_rects ≡ old_rects
 

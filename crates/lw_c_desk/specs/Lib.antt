@@ -4,5 +4,6 @@ pub mod Opened
 pub mod Answered
 pub mod Handed
 pub mod Read
+pub mod Changed
 pub mod Pens
 pub mod Laws

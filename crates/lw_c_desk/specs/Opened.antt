@@ -34,12 +34,13 @@ sizes_with w hooks bitmaps = record (sizes_of w) { hooks = hooks; bitmaps = bitm
 abbrev pub assets_with : Glyphs → List Bitmap → Assets
 assets_with g bitmaps = record { glyphs = g.rows; bitmaps = bitmaps }
 
--- the handle has a desk with these sizes that stands for the machine's empty desk
+-- the handle has a desk with these sizes that stands for the machine's empty desk, and has changed nowhere
 pub record IsNew (sizes : Sizes) (assets : Assets) (hooks : List Hook) (new : Option DeskView) : Type 0 where
   pub desk : DeskView
   pub held : new ≡ Some desk
   pub has_sizes : desk.sizes ≡ sizes
   pub stands : StandsFor desk (empty_desk sizes assets (shelf_of hooks))
+  pub unchanged : desk.changes ≡ []
 
 -- It answers that there is a desk exactly where the handle has one, and that the sizes are no desk's exactly where it has none
 -- and the limits don't hold. Otherwise all is done unless memory runs out. The handle is as before where not all was done.

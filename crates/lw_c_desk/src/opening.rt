@@ -122,6 +122,7 @@ fn copied(
     requires bitmaps { IsTrue (are_bitmaps bits.now bitmaps.now) }
     requires hooks { IsTrue (are_hooks tiles.now hooks.now) }
     ensures sizes { IfOk result (λ made. made.value.sizes ≡ sizes) }
+    ensures changes { IfOk result (λ made. made.value.changes ≡ []) }
     ensures desk { IfOk result (λ made. StandsFor made.value (empty_desk sizes
         (assets_with glyphs.now (bitmaps_of bits.now bitmaps.now)) (shelf_of (hooks_of tiles.now hooks.now)))) }
 {
@@ -155,6 +156,7 @@ fn opened(
     requires limits { IsWithinLimits sizes }
     requires task { sizes.tasks ≡ 1 }
     ensures sizes { IfOk result (λ made. made.value.sizes ≡ sizes) }
+    ensures changes { IfOk result (λ made. made.value.changes ≡ []) }
     ensures desk { IfOk result (λ made. StandsFor made.value (empty_desk sizes
         (assets_with glyphs.now bitmaps.items) (shelf_of (map (λ h. ⟦<Tiles as Backfill>⟧.hook h) hooks.items)))) }
 {
