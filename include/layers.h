@@ -246,9 +246,10 @@ int32_t lw_desk_damage(struct lw_desk *desk, uint32_t slot, struct lw_rectangle 
 int32_t lw_desk_messages(struct lw_desk *desk, uint32_t slot, uint8_t *out, size_t out_count, size_t *count);
 
 /* Where the screen changed: each of its pixels that lies in none of these rectangles shows the pen that it showed when this last
- * answered LW_DONE, or when the desk was opened. They lie on the screen, may overlap, are 16 at most, and may have pixels that
- * didn't change. So a program that reads the list into room for 16, and copies each rectangle, as lw_desk_pens reads it, to a
- * picture that was the screen's, has the screen's again. LW_DONE empties the list, LW_NO_ROOM keeps it. */
+ * answered LW_DONE, or when the desk was opened, with pen 0 everywhere. They lie on the screen, may overlap, are 16 at most, and
+ * may have pixels that didn't change. So a program that reads the list into room for 16, which is always enough, and copies each
+ * rectangle, as lw_desk_pens reads it, to a picture that was the screen's, has the screen's again. LW_DONE empties the list,
+ * LW_NO_ROOM keeps it. */
 int32_t lw_desk_changed(struct lw_desk *desk, struct lw_rectangle *out, size_t out_count, size_t *count);
 
 /* The pens of a rectangle of the screen, row by row, a byte each: those of the layers that are shown there, and 0 where none is.

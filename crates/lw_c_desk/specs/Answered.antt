@@ -1,10 +1,12 @@
 -- What the calls answer, and what a call on a desk leaves.
-use Rattle.std.specs.Prelude.{◌≡◌, Bool, false, ◌&&◌, ◌||◌, if◌then◌else◌, List, ℤ, pos, negsuc, Option, Some, None}
+use Rattle.std.specs.Prelude.{◌≡◌, Bool, true, false, ◌&&◌, ◌||◌, if◌then◌else◌, List, ℤ, pos, negsuc, Option, Some, None}
 use Rattle.lw_calls.specs.declared.sizes.Sizes.{Sizes}
 use Rattle.lw_calls.specs.declared.call.Call.{Call}
 use Rattle.lw_calls.specs.declared.reply.Reply.{Reply}
 use Rattle.lw_calls.specs.Limits.{call_fits}
 use Rattle.lw_engine_trait.specs.Memory.{takes_memory}
+use Rattle.lw_changes.specs.Refusing.{is_refusal}
+use Rattle.lw_changes.specs.Touched.{touched_slot}
 use Rattle.lw_program_desk.specs.Views.{DeskView}
 use Rattle.lw_program_desk.specs.Standing.{IsStep, StandsStill}
 use Rattle.lw_program_desk.specs.Noting.{IsNoted}
@@ -66,13 +68,16 @@ abbrev pub takes_some : Sizes → Option Call → Bool
 takes_some sizes None = false
 takes_some sizes (Some call) = has_text call || (call_fits sizes call && takes_memory call)
 
--- The desk made the step of this call, and its reply is told. Its list notes where the screen changed.
+-- The desk made the step of this call, and its reply is told. Its list notes where the screen changed; a call that is refused, or
+-- that touches no layer, leaves it.
 pub record IsStepTold (call : Call) (old new : DeskView) (reply : ReplyWords) (old_rects new_rects : List Bounds) : Type 0 where
   pub said : Reply
   pub step : IsStep old call said new
   pub is_told : reply ≡ told said
   pub written : new_rects ≡ rects_written said old_rects
   pub noted : IsNoted old call new
+  pub refused : is_refusal said ≡ true → new.changes ≡ old.changes
+  pub untouched : touched_slot call ≡ None → new.changes ≡ old.changes
 
 abbrev pub IsDone : Option Call → DeskView → DeskView → ReplyWords → List Bounds → List Bounds → Type 0
 IsDone None old new reply old_rects new_rects = ⊥

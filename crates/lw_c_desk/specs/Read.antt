@@ -7,7 +7,8 @@ use Rattle.lw_c_rectangles.specs.declared.bounds.Bounds.{Bounds}
 use Rattle.lw_c_rectangles.specs.Bounds.{bounds_of}
 use Rattle.lw_c_desk.specs.Answered.{done, no_room, closed, unfit, no_layer, no_window}
 
--- A reader leaves the handle as it was. Without a desk it answers `closed` and writes nothing; of a desk it tells this.
+-- A reader, but for that of the changes, leaves the handle as it was. Without a desk it answers `closed` and writes nothing; of a
+-- desk it tells this.
 pub record IsReadOf (told : DeskView → Type 0) (v : DeskView) (new : Option DeskView) : Type 0 where
   pub kept : new ≡ Some v
   pub is_told : told v

@@ -10,7 +10,7 @@ use lw_c_rectangles::Bounds;
 use lw_program_desk::ProgramDesk;
 
 /// Writes the rectangles outside which the screen shows what it showed when they were last written, or when the desk was opened;
-/// and forgets them. They are at most 16.
+/// and forgets them where there is room for all, and else keeps them. They are at most 16.
 #[unsafe(no_mangle)]
 pub extern "C" fn lw_desk_changed(desk: &mut Handle, out: &mut [Bounds], count: &mut usize) -> i32
     ensures { AreTakenIfAny desk.old.held.state desk.new.held.state out.old out.new count.old count.new result }

@@ -21,7 +21,7 @@ use Rattle.lw_machine.proofs.Seen.{the_one}
 use Rattle.lw_machine.proofs.Settling.{changed_or_not, painted_frame, told_framed, settled_is}
 use Rattle.lw_machine.proofs.Settling.{revealed_in, revealed_plain, revealed_super}
 use Rattle.lw_machine.proofs.RevealSound.{shows}
-use Rattle.lw_changes.specs.Touched.{bounds_list, bounds_meet, is_simple, is_repainted, repainted_in, repainted}
+use Rattle.lw_changes.specs.Touched.{bounds_list, bounds_meet, is_simple, may_repaint_frame, repainted_in, repainted}
 use Rattle.lw_changes.proofs.Places.{covers_bounds, covers_neither, found_covers, apart_uncovered}
 use Rattle.lw_changes.proofs.Beside.{IsBeside, same_top, on_top}
 use Rattle.lw_changes.proofs.Staying.{Stays, IsUnpainted, showed, same_pen}
@@ -125,45 +125,45 @@ apart_seen d a slot s r x y beside bounds apart seen =
 
 -- An arrangement leaves of each slot whether its layer is painted whole.
 module _ (glyphs : List (List ℕ)) (kept : ℕ → ℕ → Bool) (active : Bool) where
-  framed_by_same : (o : Option Window) (l : Layer) → is_repainted (framed_by glyphs kept active o l) ≡ is_repainted l
+  framed_by_same : (o : Option Window) (l : Layer) → may_repaint_frame (framed_by glyphs kept active o l) ≡ may_repaint_frame l
   unfolding with_pens
   framed_by_same None l = refl
   framed_by_same (Some w) l = go w.framed
     where
-      go : (b : Bool) → is_repainted (if b then painted_frame glyphs kept active w.title l else l) ≡ is_repainted l
+      go : (b : Bool) → may_repaint_frame (if b then painted_frame glyphs kept active w.title l else l) ≡ may_repaint_frame l
       go true = refl
       go false = refl
 
-  framed_same : (t : Bool) (l : Layer) → is_repainted (if t then with_frame glyphs kept active l else l) ≡ is_repainted l
+  framed_same : (t : Bool) (l : Layer) → may_repaint_frame (if t then with_frame glyphs kept active l else l) ≡ may_repaint_frame l
   framed_same true l = framed_by_same l.window l
   framed_same false l = refl
 
-from_revealed : (glyphs : List (List ℕ)) (c : Across) (l r : Layer) → revealed c l ≡ r → is_repainted r ≡ is_repainted l
-    → is_repainted (settled_layer glyphs c l) ≡ is_repainted l
+from_revealed : (glyphs : List (List ℕ)) (c : Across) (l r : Layer) → revealed c l ≡ r → may_repaint_frame r ≡ may_repaint_frame l
+    → may_repaint_frame (settled_layer glyphs c l) ≡ may_repaint_frame l
 from_revealed glyphs c l r is same =
     let q : Layer = with_due_frame glyphs c l r in
-    ap is_repainted (settled_is glyphs c l r is)
+    ap may_repaint_frame (settled_is glyphs c l r is)
     ∙ (ap (λ b. b && is_simple q.kind) (told_framed c q q.window)
     ∙ (framed_same glyphs (keeps c r) c.new_active (frame_is_due c l r) r ∙ same))
 
-layer_repainted : (glyphs : List (List ℕ)) (c : Across) (l : Layer) → is_repainted (settled_layer glyphs c l) ≡ is_repainted l
+layer_repainted : (glyphs : List (List ℕ)) (c : Across) (l : Layer) → may_repaint_frame (settled_layer glyphs c l) ≡ may_repaint_frame l
 layer_repainted glyphs c l = go (is_super l.kind) refl
   where
-    go : (b : Bool) → is_super l.kind ≡ b → is_repainted (settled_layer glyphs c l) ≡ is_repainted l
+    go : (b : Bool) → is_super l.kind ≡ b → may_repaint_frame (settled_layer glyphs c l) ≡ may_repaint_frame l
     go true own = from_revealed glyphs c l l (revealed_super c l own) refl
     go false plain = from_revealed glyphs c l (revealed_in c l) (revealed_plain c l plain) refl
 
 slot_repainted : (glyphs : List (List ℕ)) (c : Across) (q : Slot)
-    → layer_is is_repainted (change_layer (settled_layer glyphs c) q) ≡ layer_is is_repainted q
+    → layer_is may_repaint_frame (change_layer (settled_layer glyphs c) q) ≡ layer_is may_repaint_frame q
 slot_repainted glyphs c Unopened = refl
 slot_repainted glyphs c (Live l) = layer_repainted glyphs c l
 slot_repainted glyphs c Closed = refl
 
-settled_repainted : (d a : Desk) (s : ℕ) → layer_is is_repainted ((settled d a).slot s) ≡ layer_is is_repainted (a.slot s)
+settled_repainted : (d a : Desk) (s : ℕ) → layer_is may_repaint_frame ((settled d a).slot s) ≡ layer_is may_repaint_frame (a.slot s)
 settled_repainted d a s =
     ⊎_elim
-    (λ changed. ap (layer_is is_repainted) changed ∙ slot_repainted d.assets.glyphs (across d a s) (a.slot s))
-    (λ old. ap (layer_is is_repainted) old)
+    (λ changed. ap (layer_is may_repaint_frame) changed ∙ slot_repainted d.assets.glyphs (across d a s) (a.slot s))
+    (λ old. ap (layer_is may_repaint_frame) old)
     (changed_or_not a.front_to_back (λ t layer. change_layer (settled_layer d.assets.glyphs (across d a t)) layer) a.slot s)
 
 -- A layer on top of a place that no painted frame covers isn't painted, where the activity of windows stays.
@@ -189,8 +189,8 @@ unpainted_there d a slot s l x y ok beside before after other is live off active
 
     meeting : is_framed l.window ≡ true → l.kind ≡ Simple → bounds_meet (around d a slot) (Some t.bounds) ≡ true → ⊥
     meeting framed simple meets =
-        let here : layer_is is_repainted ((settled d a).slot s) ≡ true =
-        settled_repainted d a s ∙ (ap (layer_is is_repainted) (beside.slots s other ∙ live) ∙
+        let here : layer_is may_repaint_frame ((settled d a).slot s) ≡ true =
+        settled_repainted d a s ∙ (ap (layer_is may_repaint_frame) (beside.slots s other ∙ live) ∙
         and_from _ _ framed (ap is_simple simple)) in
         let touches : bounds_meet (around d a slot) (a.bounds s) ≡ true = ap (bounds_meet (around d a slot)) now ∙ meets in
         let listed : repainted_in (settled d a) (around d a slot) s ≡ bounds_list (a.bounds s) =

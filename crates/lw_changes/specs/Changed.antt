@@ -30,8 +30,8 @@ abbrev pub hull_of : List Rectangle → Rectangle → Rectangle
 hull_of [] r = r
 hull_of (q ∷ rects) r = hull_of rects (hull r q)
 
--- A list of at most 16 with one more rectangle: as it was where one of the list has it all, and one rectangle that has all of them
--- where there is no room.
+-- A list of at most 16 with one more rectangle: as it was where one of the list has it all, and one rectangle that has all of
+-- them where there is no room.
 abbrev pub with_rect : List Rectangle → Rectangle → List Rectangle
 with_rect rects r =
     if list_any (is_inside r) rects then rects

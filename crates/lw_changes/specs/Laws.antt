@@ -40,7 +40,7 @@ RunsChangeWhatTheyTouch =
     → covers (touched_since d es) (pos x) (pos y) ≡ false
     → pen_at (screen (machine d es)) x y ≡ pen_at (screen d) x y
 
--- What a list with one more rectangle leaves out, neither the list covered before nor the rectangle has.
+-- A place that the grown list leaves out, the list before left out, and the added rectangle doesn't have it.
 abbrev pub GrownListsCover : Type 0
 GrownListsCover =
     (rects : List Rectangle) (r : Rectangle) (x y : ℤ) → covers (with_rect rects r) x y ≡ false

@@ -83,22 +83,22 @@ is_simple SuperBitmap = false
 
 -- The layer is a window with a frame that keeps only what is visible: its frame is painted whole where an arrangement shows more
 -- of it.
-abbrev pub is_repainted : Layer → Bool
-is_repainted l = is_framed l.window && is_simple l.kind
+abbrev pub may_repaint_frame : Layer → Bool
+may_repaint_frame l = is_framed l.window && is_simple l.kind
 
 -- the bounds of a slot, where its frame may be painted because it meets one of these rectangles
 abbrev pub repainted_in : Desk → List Rectangle → ℕ → List Rectangle
 repainted_in d rects s =
-    if layer_is is_repainted (d.slot s) && bounds_meet rects (d.bounds s) then bounds_list (d.bounds s) else []
+    if layer_is may_repaint_frame (d.slot s) && bounds_meet rects (d.bounds s) then bounds_list (d.bounds s) else []
 
 -- The bounds of the windows whose frames an arrangement within these rectangles may paint: of those that keep only what is
 -- visible and meet one of them.
 abbrev pub repainted : Desk → List Rectangle → List Rectangle
 repainted d rects = flat_map (repainted_in d rects) d.front_to_back
 
--- The other windows whose frames a call may paint: where a window becomes active, the one that was; where a layer goes, goes
--- behind, or changes its bounds, those of which that may show more; and else none. A layer that is created or comes to the front
--- shows no more of any other.
+-- The other windows whose frames a call may paint: where a window becomes active, the one that was; where a layer is closed, put
+-- behind, put in front of another or given other bounds, the windows of which more may be shown; and else none. A layer that is
+-- created or comes to the front of all shows no more of any other.
 abbrev pub frames_of : Call → Frames
 frames_of (Activate slot) = OfTheActive
 frames_of (Close slot) = OfThoseMet
@@ -109,12 +109,12 @@ frames_of (SizeBy slot dw dh) = OfThoseMet
 frames_of (SetBox slot x y w h) = OfThoseMet
 frames_of call = Unpainted
 
--- The bounds of these windows where a call leads from the desk d to the desk e, for an arrangement within these rectangles: where
--- the active one was, and where those met are, since none of them moves.
-abbrev pub frames : Desk → Desk → Frames → List Rectangle → List Rectangle
-frames d e Unpainted rects = []
-frames d e OfTheActive rects = bounds_on d d.active
-frames d e OfThoseMet rects = repainted e rects
+-- The bounds of the windows whose frames the call may paint, where it leads from the desk d to the desk e, for an arrangement
+-- within these rectangles: where the active one was, and where those met are, since none of them moves.
+abbrev pub frame_places : Desk → Desk → Frames → List Rectangle → List Rectangle
+frame_places d e Unpainted rects = []
+frame_places d e OfTheActive rects = bounds_on d d.active
+frame_places d e OfThoseMet rects = repainted e rects
 
 -- where the call's own layer lies before it, and after it
 abbrev pub own_places : Desk → Call → Desk → List Rectangle
@@ -123,7 +123,7 @@ own_places d call e = bounds_on d (touched_slot call) ++ bounds_on e (touched_sl
 -- The places of the screen that a call may change which leads from the desk d to the desk e: where its own layer lies before and
 -- after, and where windows lie whose frames it may paint.
 abbrev pub touched : Desk → Call → Desk → List Rectangle
-touched d call e = own_places d call e ++ frames d e (frames_of call) (own_places d call e)
+touched d call e = own_places d call e ++ frame_places d e (frames_of call) (own_places d call e)
 
 -- all that the steps of a history touch, from the desk d on
 abbrev pub touched_since : Desk → List Entry → List Rectangle

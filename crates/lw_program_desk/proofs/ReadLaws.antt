@@ -17,7 +17,7 @@ use Rattle.lw_layer.specs.View.{State, LiveView, CellView}
 use Rattle.lw_layer.specs.View as view
 use Rattle.lw_layer.specs.StandsFor.{IsPartOf, StandsFor as StandsForPart}
 use Rattle.lw_layer.specs.Pieces.{IsDamageOf}
-use Rattle.lw_changes.specs.Touched.{is_repainted}
+use Rattle.lw_changes.specs.Touched.{may_repaint_frame}
 use Rattle.lw_layer.proofs.SoundLaws.{live_part}
 use Rattle.lw_stack.specs.Stack.{Stack, is_top_in}
 use Rattle.lw_stack.proofs.ListLaws.{shown_is_top}
@@ -123,25 +123,25 @@ module _ (sizes : Sizes) (assets : Assets) (p : PartsView) (d : Desk) (slot : �
       let desk = layers_of_desk sizes assets p.info p.cells d are.layers in
       desk.slots slot (subst (λ (z : Sizes). slot < z.slots) (sym are.layers.info.sizes) low)
 
-  pub none_repainted : ((cell_at cells slot).state ≡ view.Live → ⊥) → layer_is is_repainted (d.slot slot) ≡ false
+  pub none_repainted : ((cell_at cells slot).state ≡ view.Live → ⊥) → layer_is may_repaint_frame (d.slot slot) ≡ false
   none_repainted idle =
       by_state (cell_at p.cells slot).state (cell_at p.cells slot).live
       (subst (λ (all : List CellView). (cell_at all slot).state ≡ view.Live → ⊥) same idle) cell_part
     where
       by_state : (s : State) (l : LiveView) → (s ≡ view.Live → ⊥) → IsPartOf s l (slot_part d slot)
-          → layer_is is_repainted (d.slot slot) ≡ false
-      by_state view.Unopened l idle part = ap (layer_is is_repainted) part.0
+          → layer_is may_repaint_frame (d.slot slot) ≡ false
+      by_state view.Unopened l idle part = ap (layer_is may_repaint_frame) part.0
       by_state view.Live l idle part = absurd (idle refl)
-      by_state view.Closed l idle part = ap (layer_is is_repainted) part.0
+      by_state view.Closed l idle part = ap (layer_is may_repaint_frame) part.0
 
   pub layer_repainted : (l : LiveView) → IsLayerIn (cell_at cells slot) l
-      → is_repainted l.layer ≡ layer_is is_repainted (d.slot slot)
+      → may_repaint_frame l.layer ≡ layer_is may_repaint_frame (d.slot slot)
   layer_repainted l is =
       let cell = ap (λ (all : List CellView). cell_at all slot) same in
       let live = ap (λ (c : CellView). c.state) (sym cell) ∙ is.live in
       let part = live_part (cell_at p.cells slot) (slot_part d slot) live cell_part in
-      sym (ap (layer_is is_repainted) part.slot
-      ∙ (ap (λ (c : CellView). is_repainted c.live.layer) (sym cell) ∙ ap (λ (k : LiveView). is_repainted k.layer) is.layer))
+      sym (ap (layer_is may_repaint_frame) part.slot
+      ∙ (ap (λ (c : CellView). may_repaint_frame c.live.layer) (sym cell) ∙ ap (λ (k : LiveView). may_repaint_frame k.layer) is.layer))
 
 -- LayerInfo and the cells as they are lent
 pub lent_layers : (sizes : Sizes) (assets : Assets) (p : PartsView) (d : Desk) (info : InfoView) (cells : List CellView)

@@ -1,14 +1,13 @@
 -- What a call leaves of the desk, by what it leaves of the parts.
-use Rattle.std.proofs.Common.{◌≡◌, true, refl, ◌∙◌, sym, subst, List, Some, Ok, Err, Result, IfOk, OnErr}
+use Rattle.std.proofs.Common.{◌≡◌, refl, ◌∙◌, sym, subst, List, Some, Ok, Err, Result, IfOk, OnErr}
 use Rattle.lw_region.specs.Rectangle.{Rectangle}
 use Rattle.lw_calls.specs.declared.call.Call.{Call}
 use Rattle.lw_calls.specs.declared.reply.Reply.{Reply}
 use Rattle.lw_machine.specs.Desk.{Desk}
-use Rattle.lw_machine.specs.Screen.{screen_bounds}
 use Rattle.lw_machine.specs.Step.{after, reply}
-use Rattle.lw_changes.specs.Changed.{has_all}
 use Rattle.lw_program_desk.specs.Views.{DeskView, PartsView, PartsAre, StandsFor, IsKept, with_changes}
 use Rattle.lw_program_desk.specs.Standing.{IsStep, StandsStill}
+use Rattle.lw_program_desk.specs.Noting.{AreOnScreen}
 
 same_parts : (a b : PartsView) → Some a ≡ Some b → a ≡ b
 same_parts a b e = cc
@@ -37,6 +36,7 @@ kept_after v call old new (Ok r) held k step still =
       limits = k.limits;
       task = k.task;
       on_screen = k.on_screen;
+      ordered = k.ordered;
     }
 kept_after v call old new (Err e) held k step still =
     record {
@@ -45,6 +45,7 @@ kept_after v call old new (Err e) held k step still =
       limits = k.limits;
       task = k.task;
       on_screen = k.on_screen;
+      ordered = k.ordered;
     }
 
 pub still_after : {E : Type 0} (v : DeskView) (old new : PartsView) (told : Result Reply E) → v.held ≡ Some old
@@ -57,14 +58,15 @@ still_after v old new (Err e) held still = λ d s. new_stand v new d (still d (o
 pub stands_with : (v : DeskView) (changes : List Rectangle) (d : Desk) → StandsFor v d → StandsFor (with_changes v changes) d
 stands_with v changes d s = record { parts = s.parts; held = s.held; stand = s.stand }
 
-pub kept_with : (v : DeskView) (changes : List Rectangle) → has_all (screen_bounds v.sizes) changes ≡ true → IsKept v
+pub kept_with : (v : DeskView) (changes : List Rectangle) → AreOnScreen v.sizes changes → IsKept v
     → IsKept (with_changes v changes)
 kept_with v changes there k = record {
   desk = k.desk;
   stands = stands_with v changes k.desk k.stands;
   limits = k.limits;
   task = k.task;
-  on_screen = there;
+  on_screen = there.inside;
+  ordered = there.ordered;
 }
 
 -- so after a step

@@ -1,6 +1,6 @@
 -- A program's desk as contracts see it.
-use Rattle.std.specs.Prelude.{◌≡◌, ℕ, Bool, true, ◌&&◌, nat_le, List, Option, Some}
-use Rattle.lw_region.specs.Rectangle.{Rectangle}
+use Rattle.std.specs.Prelude.{◌≡◌, ℕ, Bool, true, ◌&&◌, nat_le, List, All, Option, Some}
+use Rattle.lw_region.specs.Rectangle.{Rectangle, IsOrdered}
 use Rattle.lw_calls.specs.Assets.{Assets}
 use Rattle.lw_calls.specs.declared.sizes.Sizes.{Sizes}
 use Rattle.lw_calls.specs.Limits.{IsWithinLimits}
@@ -39,13 +39,14 @@ pub record StandsFor (v : DeskView) (d : Desk) : Type 0 where
   pub held : v.held ≡ Some parts
   pub stand : PartsAre v.sizes v.assets parts d
 
--- It stands for some desk, with sizes that a desk may have and one task, and its changes lie on the screen.
+-- It stands for some desk, with sizes that a desk may have and one task, and its changes are ordered and lie on the screen.
 pub record IsKept (v : DeskView) : Type 0 where
   pub desk : Desk
   pub stands : StandsFor v desk
   pub limits : IsWithinLimits v.sizes
   pub task : v.sizes.tasks ≡ 1
   pub on_screen : has_all (screen_bounds v.sizes) v.changes ≡ true
+  pub ordered : All IsOrdered v.changes
 
 -- For private contracts: the layer of a live cell, whose hook lies beside it.
 pub record IsLayerIn (c : CellView) (l : LiveView) : Type 0 where

@@ -4,8 +4,8 @@ ghost use Rattle.std.specs.Prelude.{◌≡◌, ◌++◌};
 ghost use Rattle.lw_calls.specs.Limits.{IsWithinLimits};
 ghost use Rattle.lw_machine.specs.Desk.{Desk as MachineDesk};
 ghost use Rattle.lw_machine.specs.Layer.{layer_is};
-ghost use Rattle.lw_changes.specs.Touched.{touched_slot, bounds_list, bounds_on, bounds_meet, is_repainted, repainted_in};
-ghost use Rattle.lw_changes.specs.Touched.{repainted, frames, touched};
+ghost use Rattle.lw_changes.specs.Touched.{touched_slot, bounds_list, bounds_on, bounds_meet, may_repaint_frame, repainted_in};
+ghost use Rattle.lw_changes.specs.Touched.{repainted, frame_places, touched};
 ghost use Rattle.lw_program_desk.specs.Views.{StandsFor};
 ghost use Rattle.lw_program_desk.specs.Noting.{AreNoted, StayOn};
 
@@ -59,20 +59,20 @@ impl ProgramDesk {
         ensures on_screen { StayOn self.now.sizes changes.old changes.new }
     {
         let bounds = self.bounds(slot);
-        if self.is_repainted(slot) && either_meets(own, is, &bounds) {
+        if self.may_repaint_frame(slot) && either_meets(own, is, &bounds) {
             note_part(self.limited_sizes(), &bounds, changes);
         }
     }
 
     // Whether a slot's layer is a window with a frame that keeps only what is visible.
-    fn is_repainted(&self, slot: u32) -> bool
-        ensures { (d : MachineDesk) → StandsFor self.now d → result ≡ layer_is is_repainted (d.slot slot) }
+    fn may_repaint_frame(&self, slot: u32) -> bool
+        ensures { (d : MachineDesk) → StandsFor self.now d → result ≡ layer_is may_repaint_frame (d.slot slot) }
     {
         if self.limited_sizes().slots <= slot {
             return false;
         }
         match layer_in(self.held().cells(), slot) {
-            Some(layer) => is_frame_lost(layer),
+            Some(layer) => may_repaint_frame(layer),
             None => false,
         }
     }
@@ -96,8 +96,8 @@ impl ProgramDesk {
     }
 }
 
-fn is_frame_lost(layer: &Layer) -> bool
-    ensures { result ≡ is_repainted layer.now.layer }
+fn may_repaint_frame(layer: &Layer) -> bool
+    ensures { result ≡ may_repaint_frame layer.now.layer }
 {
     let look = layer.look();
     look.framed && matches!(look.kind, Kind::Simple)

@@ -1,10 +1,12 @@
-ghost use Rattle.std.specs.Prelude.{◌≡◌, ◌≤◌, true, false, map, List, [], length, IsTrue, IsOk, IfOk, OnOk, OnErr, IsErrOf, ◌↔◌};
+ghost use Rattle.std.specs.Prelude.{◌≡◌, ◌≤◌, true, false, map, List, [], length, All, None, IsTrue, IsOk, IfOk, OnOk, OnErr, IsErrOf, ◌↔◌};
 ghost use Rattle.lw_calls.specs.Limits.{IsWithinLimits, call_fits};
 ghost use Rattle.lw_machine.specs.Desk.{Desk as MachineDesk, empty_desk, shelf_of};
 ghost use Rattle.lw_machine.specs.Step.{after, reply};
 ghost use Rattle.lw_engine_trait.specs.Memory.{takes_memory};
 ghost use Rattle.lw_machine.specs.Screen.{screen_bounds};
+ghost use Rattle.lw_region.specs.Rectangle.{IsOrdered};
 ghost use Rattle.lw_changes.specs.Changed.{has_all};
+ghost use Rattle.lw_changes.specs.Refusing.{is_refusal};
 ghost use Rattle.lw_changes.specs.Touched.{touched_slot, bounds_list, bounds_on, touched};
 ghost use Rattle.lw_program_desk.specs.Views.{DeskView, StandsFor, PartsAre, with_changes};
 ghost use Rattle.lw_program_desk.specs.Standing.{IsStep, StandsStill};
@@ -94,7 +96,8 @@ impl ProgramDesk {
     }
 
     /// Makes one call, which has to fit the sizes, and gives its reply. A call that takes no memory can't fail; any other fails
-    /// only when out of memory, and the desk then stands for what it stood for. Where the call changes the screen is noted.
+    /// only when out of memory, and the desk then stands for what it stood for. Where the call changes the screen is noted; a
+    /// call that is refused, or that touches no layer, leaves the list as it was.
     pub fn call(&mut self, alloc: Global, call: &Call) -> Result<Reply, AllocError>
         requires fits { IsTrue (call_fits self.old.sizes call.now) }
         ensures step { IfOk result (λ r. IsStep self.old call.now r self.new) }
@@ -103,10 +106,16 @@ impl ProgramDesk {
         ensures memory { takes_memory call.now ≡ false → IsOk result }
         ensures noted { OnOk result (IsNoted self.old call.now self.new) }
         ensures as_before { OnErr result (self.new.changes ≡ self.old.changes) }
+        ensures refused { IfOk result (λ r. is_refusal r ≡ true → self.new.changes ≡ self.old.changes) }
+        ensures untouched { touched_slot call.now ≡ None → self.new.changes ≡ self.old.changes }
     {
-        let own = self.bounds_of(touched_slot(call));
+        let slot = touched_slot(call);
+        let own = self.bounds_of(slot);
         let active = self.bounds_of(self.active());
         let reply = self.step(alloc, call)?;
+        if slot.is_none() {
+            return Ok(reply);
+        }
         if is_refusal(&reply) {
             return Ok(reply);
         }
@@ -131,12 +140,13 @@ impl ProgramDesk {
         told
     }
 
-    /// The rectangles that were noted since the list was empty: at most 16, which lie on the screen. Outside them each pixel shows
-    /// the pen that it showed then.
+    /// The rectangles that were noted since the list was empty: at most 16, which lie on the screen. Outside them each pixel
+    /// shows the pen that it showed then.
     pub fn changes(&self) -> &[Rect]
         ensures value { result.now ≡ self.now.changes }
         ensures few { length self.now.changes ≤ 16 }
         ensures on_screen { has_all (screen_bounds self.now.sizes) self.now.changes ≡ true }
+        ensures ordered { All IsOrdered self.now.changes }
     {
         self.changes.rects()
     }

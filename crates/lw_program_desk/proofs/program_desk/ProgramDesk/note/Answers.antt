@@ -13,7 +13,7 @@ invariant_of-self c =
     let v : DeskView = record { sizes = f.sizes; assets = f.assets; held = f.held; changes = f.changes } in
     kept_with v c.note_in.new.changes
     (copy_stays v c.args.self.now c.copy-changes.result c.note_in.new.changes c.self.view_is c.copy-changes.ensures
-    c.self.invariant.on_screen c.note_in.ensures.on_screen)
+    (record { inside = c.self.invariant.on_screen; ordered = c.self.invariant.ordered }) c.note_in.ensures.on_screen)
     c.self.invariant
 
 pub returns-clause-noted : goal.returns-clause-noted
