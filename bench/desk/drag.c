@@ -1,12 +1,13 @@
-// The drag on a desk of the library: after each step the damage of the windows is read and painted again, and the part of the
-// screen that changed is read, as a port reads it that shows it on a display of its own.
+// The drag on a desk of the library: after each step the damage of the windows is read and painted again, and what changed of the
+// screen is read by the desk's own list, as a port reads it that shows it on a display of its own. At the end of the first drag that
+// display has to show the screen.
 #include "drag.h"
 #include <layers.h>
 
 enum { NOTHING, PLANES, PENS };
 
 static struct lw_desk desk = LW_NO_DESK;
-static uint8_t bytes[WIDTH * HEIGHT];
+static uint8_t bytes[WIDTH * HEIGHT], shown[WIDTH * HEIGHT];
 static unsigned long damaged;
 
 static void must(int32_t answer)
@@ -53,18 +54,40 @@ static void paint(uint32_t window)
     damaged += count;
 }
 
+// Shows on `shown` the pens of a rectangle of the screen, as a port does with a display of its own.
+static void show(const struct lw_rectangle *rect)
+{
+    int w = rect->max_x - rect->min_x + 1;
+    must(lw_desk_pens(&desk, rect, bytes, sizeof bytes));
+    for (int y = rect->min_y; y <= rect->max_y; y++) {
+        memcpy(shown + y * WIDTH + rect->min_x, bytes + (y - rect->min_y) * w, (size_t)w);
+    }
+}
+
+// Reads what changed of the screen since the last time, as the desk tells it.
+static void read_changed(int read)
+{
+    struct lw_rectangle rects[16];
+    size_t count, size;
+    must(lw_desk_changed(&desk, rects, 16, &count));
+    for (size_t i = 0; i < count; i++) {
+        if (read == PLANES) {
+            must(lw_desk_planes(&desk, &rects[i], bytes, sizeof bytes, &size));
+        } else {
+            show(&rects[i]);
+        }
+    }
+}
+
 static void make(int x, int y, int dx, int dy, int read)
 {
-    struct part part = changed(x, y, dx, dy);
-    struct lw_rectangle rect = {(int16_t)part.x, (int16_t)part.y, (int16_t)(part.x + part.w - 1), (int16_t)(part.y + part.h - 1)};
-    size_t count;
+    (void)x;
+    (void)y;
     must(lw_move_layer(&desk, 0, dx, dy));
     paint(1);
     paint(2);
-    if (read == PLANES) {
-        must(lw_desk_planes(&desk, &rect, bytes, sizeof bytes, &count));
-    } else if (read == PENS) {
-        must(lw_desk_pens(&desk, &rect, bytes, sizeof bytes));
+    if (read != NOTHING) {
+        read_changed(read);
     }
 }
 
@@ -73,17 +96,21 @@ int main(void)
     static const struct lw_rectangle screen = {0, 0, WIDTH - 1, HEIGHT - 1};
     open_desk();
     for (int i = 0; i < STEPS; i++) {
-        make(places[0][0] + DX * i, places[0][1] + DY * i, DX, DY, NOTHING);
+        make(places[0][0] + DX * i, places[0][1] + DY * i, DX, DY, PENS);
     }
     printf("rectangles %lu\n", damaged);
     must(lw_desk_pens(&desk, &screen, bytes, sizeof bytes));
     printf("screen %u\n", (unsigned)digest(0, bytes, sizeof bytes));
+    if (memcmp(bytes, shown, sizeof bytes) != 0) {
+        fprintf(stderr, "drag: what the desk told to have changed isn't all that did\n");
+        return 1;
+    }
     must(lw_move_layer(&desk, 0, -STEPS * DX, -STEPS * DY));
     paint(1);
     paint(2);
     print_drag("here, moved and painted", make, NOTHING);
-    print_drag("here, and the changed part read as planes", make, PLANES);
-    print_drag("here, and the changed part read as pens", make, PENS);
+    print_drag("here, and what changed read as planes", make, PLANES);
+    print_drag("here, and what changed read as pens", make, PENS);
     must(lw_desk_close(&desk));
     return 0;
 }
