@@ -75,6 +75,7 @@ fn main(rt: HostRuntime) {
     let _visible = lw_desk_visible(&mut desk, 0, &mut rects, &mut count);
     let _damage = lw_desk_damage(&mut desk, 0, &mut rects, &mut count);
     let _messages = lw_desk_messages(&mut desk, 0, &mut bytes, &mut count);
+    let _changed = lw_desk_changed(&mut desk, &mut rects, &mut count);
     let _pens = lw_desk_pens(alloc, &mut desk, &rects[0], &mut bytes);
     let _planes = lw_desk_planes(alloc, &mut desk, &rects[0], &mut bytes, &mut count);
     let _closed = lw_desk_close(alloc, &mut desk);
