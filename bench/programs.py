@@ -58,7 +58,7 @@ def seconds_of_calls(program, folder, size, with_fronts, groups):
     """The seconds of the calls alone, where each group is the processors and the tasks of one program."""
     total = 0
     for calls, sign in (CALLS, 1), (0, -1):
-        for command, status, ending, times in ("run", 0, "", 1), ("replay", 8, "order\n0\n", -1):
+        for command, status, ending, times in ("run", 0, "", 1), ("replay", 8, "order\n15\n", -1):
             places = []
             for processors, tasks in groups:
                 name = os.path.join(folder, f"{command}.{tasks[0]}")
