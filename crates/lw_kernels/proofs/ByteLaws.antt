@@ -1,11 +1,11 @@
 -- Laws of single bytes, bit by bit from the left.
-use Rattle.std.proofs.Common.{◌≡◌, ℕ, ◌+◌, ◌-◌, ◌*◌, ◌/◌, ◌%◌, ◌^◌, ◌<◌, ◌≤◌, ◌==◌, ◌&&◌, nat_lt, nat_le, min, max, sym, if◌then◌else◌, Bool, true, false, List, get_or, bit_and, bit_or, ap, refl, ◌∙◌, ⊎_elim, arith}
+use Rattle.std.proofs.Common.{◌≡◌, ℕ, zero, suc, ◌+◌, ◌-◌, ◌*◌, ◌/◌, ◌%◌, ◌^◌, ◌<◌, ◌≤◌, ◌==◌, ◌&&◌, nat_lt, nat_le, min, max, sym, if◌then◌else◌, Bool, true, false, List, get_or, bit_and, bit_or, bit_xor, ap, refl, ◌∙◌, ⊎_elim, arith}
 use mir.Val.{bits}
-use Rattle.std.specs.Int.{Width, bit_at, bit_not, w8}
+use Rattle.std.specs.Int.{Width, bit_at, bit_not, rotate_left, w8, w64}
 use Rattle.std.proofs.lemmas.Bool.{cases_lt}
 use Rattle.std.proofs.lemmas.Bool.Decides.{nat_tests}
 use Rattle.std.proofs.lemmas.Nat.{shr-shr, pow_pos, div-add-mod'}
-use Rattle.std.proofs.lemmas.Nat.Bits.{bit_at-lt, bit_at_ones, bit_at_ones_above, bit_at_not, bit_at_and, bit_at_or, bit_at_cat_low, bit_at_cat_high, bit_at-zero, bit_at_above}
+use Rattle.std.proofs.lemmas.Nat.Bits.{bit_at-lt, bit_at_ones, bit_at_ones_above, bit_at_not, bit_at_and, bit_at_or, bit_at_xor, bit_at_cat_low, bit_at_cat_high, bit_at-zero, bit_at_above}
 use Rattle.lw_planes.specs.Row.{bit_of, row_bit}
 use Rattle.lw_planes.specs.Minterm.{minterm_bit}
 use Rattle.lw_kernels.specs.Kernel.{is_between}
@@ -71,6 +71,19 @@ bit_at_picked w value old mask i small low =
     (ap (λ n. max n (bit_at (bit_and old (bit_not w mask)) i)) (bit_at_and value mask i) ∙
     (ap (λ n. max (min (bit_at value i) (bit_at mask i)) n) (bit_at_and_not w old mask i small low) ∙
     masked_bit (bit_at value i) (bit_at old i) (bit_at mask i) (bit_at-lt value i) (bit_at-lt old i) (bit_at-lt mask i)))
+
+-- one bit of what a mask takes from two words, by what they differ in
+merged_bit : (m v value old : ℕ) → m < 2 → value < 2 → old < 2 → v ≡ (min ((value + old) % 2) m + old) % 2 → v ≡ (if m == 1 then value else old)
+merged_bit zero v value old few small low is = let same : (min ((value + old) % 2) 0 + old) % 2 ≡ old = omega arith in is ∙ same
+merged_bit (suc zero) v value old few small low is = let same : (min ((value + old) % 2) 1 + old) % 2 ≡ value = omega arith in is ∙ same
+merged_bit (suc (suc m)) v value old few small low is = absurd (omega arith)
+
+-- a number whose bits under a mask are those of another, as what they differ in is changed
+pub bit_at_merged : (value old mask i : ℕ) → bit_at (bit_xor (bit_and (bit_xor value old) mask) old) i ≡ (if bit_at mask i == 1 then bit_at value i else bit_at old i)
+bit_at_merged value old mask i =
+    merged_bit (bit_at mask i) (bit_at (bit_xor (bit_and (bit_xor value old) mask) old) i) (bit_at value i) (bit_at old i) (bit_at-lt mask i) (bit_at-lt value i) (bit_at-lt old i)
+    (bit_at_xor (bit_and (bit_xor value old) mask) old i ∙
+    ap (λ n. (n + bit_at old i) % 2) (bit_at_and (bit_xor value old) mask i ∙ ap (λ n. min n (bit_at mask i)) (bit_at_xor value old i)))
 
 -- a choice by a bit that is a truth value
 pub chosen_by_bit : (t : Bool) (v m a b : ℕ) → m ≡ bit_of t → v ≡ (if m == 1 then a else b) → v ≡ (if t then a else b)
@@ -153,6 +166,40 @@ max_zero a b c p q = omega arith
 -- the greater of two bits of which the first is 0
 zero_max : (a b c : ℕ) → a ≡ 0 → b ≡ c → max a b ≡ c
 zero_max a b c p q = omega arith
+
+-- the greater of two equal bits
+max_same : (a b c : ℕ) → a ≡ c → b ≡ c → max a b ≡ c
+max_same a b c p q = omega arith
+
+-- a word that is rotated, its bits counted from the highest
+pub bit_at_turned : (n by j : ℕ) → n < 2 ^ 64 → by < 64 → j < 64 → bit_at (rotate_left w64 n by) (63 - j) ≡ bit_at n (63 - (j + by) % 64)
+bit_at_turned n by j small few low =
+    let i : ℕ = 63 - j in
+    let turn : ℕ = by % 64 in
+    let back : ℕ = (64 - turn) % 64 in
+    let first : ℕ = bit_at ((n * 2 ^ turn) % 2 ^ 64) i in
+    let second : ℕ = bit_at (n / 2 ^ back) i in
+    let wanted : ℕ = bit_at n (63 - (j + by) % 64) in
+    let in_word : i < 64 = omega arith in
+    let chosen : first ≡ (if nat_lt i turn then 0 else bit_at n (i - turn)) = bit_at_shl 64 n turn i in_word in
+    let from_second : second ≡ bit_at n (back + i) = bit_at_shr n back i in
+    bit_at_or ((n * 2 ^ turn) % 2 ^ 64) (n / 2 ^ back) i ∙
+    ⊎_elim
+    (λ (below : i < turn).
+    let place : back + i ≡ 63 - (j + by) % 64 = omega (arith, below, few, low) in
+    zero_max first second wanted (lt_choice i turn first 0 (bit_at n (i - turn)) below chosen) (from_second ∙ ap (bit_at n) place))
+    (λ (past : turn ≤ i).
+    let place : i - turn ≡ 63 - (j + by) % 64 = omega (arith, past, few, low) in
+    let is_first : first ≡ wanted = ge_choice i turn first 0 (bit_at n (i - turn)) past chosen ∙ ap (bit_at n) place in
+    ⊎_elim
+    (λ (none : turn < 1).
+    let same : back + i ≡ 63 - (j + by) % 64 = omega (arith, none, few, low) in
+    max_same first second wanted is_first (from_second ∙ ap (bit_at n) same))
+    (λ (some : 1 ≤ turn).
+    let high : 64 ≤ back + i = omega (arith, some, past, few) in
+    max_zero first second wanted is_first (from_second ∙ bit_at_above n 64 (back + i) small high))
+    (cases_lt turn 1))
+    (cases_lt i turn)
 
 -- a bit of a pair of bytes that was shifted
 pub bit_at_shifted : (left right shift j : ℕ) → right < 256 → 0 < shift → shift < 8 → j < 8 → bit_at (bit_or ((left * 2 ^ shift) % 256) (right / 2 ^ (8 - shift))) (7 - j) ≡ (if nat_lt (shift + j) 8 then bit_at left (7 - (shift + j)) else bit_at right (15 - (shift + j)))

@@ -1,13 +1,13 @@
 -- Blocks of rows that are done column by column.
-use Rattle.std.proofs.Common.{◌≡◌, ℕ, ◌<◌, ◌≤◌, ◌&&◌, if◌then◌else◌, Bool, true, false, List, bit_and, ap, refl, sym, ◌∙◌, ⊎_elim, arith}
+use Rattle.std.proofs.Common.{◌≡◌, ℕ, ◌+◌, ◌-◌, ◌*◌, ◌<◌, ◌≤◌, ◌&&◌, nat_lt, if◌then◌else◌, Bool, true, false, List, bit_and, ap, refl, sym, ◌∙◌, ⊎_elim, arith}
 use Rattle.std.proofs.lemmas.Bool.{cases_lt, and_right}
 use Rattle.lw_planes.specs.Row.{row_bit}
 use Rattle.lw_planes.specs.Minterm.{minterm_bit}
 use Rattle.lw_planes.proofs.RowLaws.{row_bit_lt}
 use Rattle.lw_kernels.specs.Kernel.{is_between, place_in}
 use Rattle.lw_kernels.proofs.ByteLaws.{minterm_copies}
-use Rattle.lw_kernels.proofs.RowWriting.{if_true, if_false, chosen, chosen_same, between_yes, between_before, between_after}
-use Rattle.lw_kernels.proofs.SpanLaws.{RowsDone, between_none}
+use Rattle.lw_kernels.proofs.RowWriting.{Done, if_true, if_false, chosen, chosen_same, between_yes, between_before, between_after, done_starts, done_ends}
+use Rattle.lw_kernels.proofs.SpanLaws.{RowsDone, between_none, row_next}
 
 -- before the first column nothing is done
 pub rows_empty : (step from end : ℕ) (bytes : List ℕ) (test : ℕ → Bool) (new : ℕ → ℕ → ℕ) → end ≤ from → RowsDone step from end bytes test new (λ p. row_bit bytes p)
@@ -49,6 +49,24 @@ rows_joined step from mid end first last one two test new second old p q begins 
 pub rows_to : (step from end stop : ℕ) (bytes : List ℕ) (test : ℕ → Bool) (new : ℕ → ℕ → ℕ) (old : ℕ → ℕ) → end ≡ stop → RowsDone step from end bytes test new old → RowsDone step from stop bytes test new old
 rows_to step from end stop bytes test new old same done = λ y x low.
     done y x low ∙ ap (λ n. if test y && is_between from n x then new y x else old (place_in step y x)) same
+
+-- one more row of a column is done
+pub row_copied : (to_step source_step at lead start place count k : ℕ) (one two source : List ℕ) (old : ℕ → ℕ) → 8 * at + lead + count ≤ 8 * to_step
+    → RowsDone to_step (8 * at + lead) (8 * at + lead + count) one (λ y. nat_lt y k) (λ y x. row_bit source (place_in source_step y (8 * start + place + (x - (8 * at + lead))))) old
+    → Done two (λ x. row_bit source (8 * (k * source_step + start) + place + (x - (8 * (k * to_step + at) + lead)))) (λ p. row_bit one p) (8 * (k * to_step + at) + lead) (8 * (k * to_step + at) + lead + count)
+    → RowsDone to_step (8 * at + lead) (8 * at + lead + count) two (λ y. nat_lt y (k + 1)) (λ y x. row_bit source (place_in source_step y (8 * start + place + (x - (8 * at + lead))))) old
+row_copied to_step source_step at lead start place count k one two source old fits done here =
+    let from : ℕ = 8 * at + lead in
+    let first : ℕ = 8 * (k * to_step + at) + lead in
+    let line : ℕ → ℕ = λ x. row_bit source (8 * (k * source_step + start) + place + (x - first)) in
+    let begins : first ≡ 8 * (k * to_step) + from = omega arith in
+    let ends : first + count ≡ 8 * (k * to_step) + (from + count) = omega arith in
+    row_next to_step from (from + count) one two (λ y x. row_bit source (place_in source_step y (8 * start + place + (x - from)))) line old k fits done
+    (done_starts two line (λ p. row_bit one p) first (8 * (k * to_step) + from) (8 * (k * to_step) + (from + count)) begins
+    (done_ends two line (λ p. row_bit one p) first (first + count) (8 * (k * to_step) + (from + count)) ends here))
+    (λ x _ _ _.
+    let same : 8 * (k * source_step + start) + place + (8 * (k * to_step) + x - first) ≡ 8 * (k * source_step) + (8 * start + place + (x - from)) = omega arith in
+    ap (row_bit source) same)
 
 -- copied rows are those of a blit by the minterm of a copy
 pub rows_copied : (step from end : ℕ) (bytes source : List ℕ) (test : ℕ → Bool) (place : ℕ → ℕ → ℕ) (old : ℕ → ℕ) (minterm : ℕ) → bit_and minterm 240 ≡ 192 → RowsDone step from end bytes test (λ y x. row_bit source (place y x)) old → RowsDone step from end bytes test (λ y x. minterm_bit minterm (row_bit source (place y x)) (old (place_in step y x))) old

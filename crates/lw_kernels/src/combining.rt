@@ -83,7 +83,15 @@ pub fn combine_rows(
         (row_bit to.old (place_in to_step y x))
         else row_bit to.old (place_in to_step y x)) }
 {
-    if goes_by_columns(to_step, to_bit, source_step, source_bit, count, minterm) {
+    if goes_by_columns(
+        to_step,
+        to_bit,
+        source_step,
+        source_bit,
+        rows,
+        count,
+        minterm,
+    ) {
         copy_columns(
             to,
             to_step,

@@ -1,4 +1,4 @@
-use Rattle.std.proofs.Common.{ℕ, ◌+◌, ◌-◌, ◌/◌, ◌%◌, refl, arith}
+use Rattle.std.proofs.Common.{◌+◌, ◌-◌, ◌/◌, ◌%◌, arith}
 use Rattle.std.specs.Int.{bit_at}
 use Rattle.lw_planes.specs.Row.{bit_of}
 use Rattle.lw_kernels.proofs.SpanLaws.{byte_done}
