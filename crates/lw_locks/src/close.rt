@@ -83,7 +83,7 @@ impl<E: Engine, N: Opening> Desk<E, N> {
             info,
             layers,
         } = self;
-        let Place { held } = info.into_inner();
+        let Place { held, apart: _ } = info.into_inner();
         let Some(info) = held else {
             unreachable!();
         };
@@ -148,7 +148,7 @@ fn join_layers<E: Engine, N: Opening>(
     let Some(lock) = layers.pop() else {
         return;
     };
-    let Place { held } = lock.into_inner();
+    let Place { held, apart: _ } = lock.into_inner();
     let Some(layer) = held else {
         unreachable!();
     };

@@ -48,5 +48,7 @@ impl<E: Engine, N: Opening> Model for LayerInfo<E, N> {
 #[derive(Drop)]
 pub(crate) struct Place<T> {
     pub(crate) held: Option<T>,
+    // So that the next lock has another cache line: tasks on layers of their own write to no line in common.
+    pub(crate) apart: [u64; 8],
     ghost there: { IsSome held },
 }

@@ -62,7 +62,10 @@ impl<E: Engine, N: Opening> Desk<E, N> {
         Self::put_passes(&order, &mut whole, &mut regs, &mut passes)?;
         let desk = Desk {
             steps: Steps { order, engine, of },
-            info: Mutex::new(Place { held: Some(info) }),
+            info: Mutex::new(Place {
+                held: Some(info),
+                apart: [0; 8],
+            }),
             layers,
         };
         Ok((desk, passes))
@@ -98,7 +101,10 @@ impl<E: Engine, N: Opening> Desk<E, N> {
             of: PhantomData,
         };
         Self::put_layers(order, seat, cells, layers)?;
-        layers.push(Mutex::new(Place { held: Some(layer) }))?;
+        layers.push(Mutex::new(Place {
+            held: Some(layer),
+            apart: [0; 8],
+        }))?;
         Ok(())
     }
 

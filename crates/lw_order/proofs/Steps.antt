@@ -21,7 +21,7 @@ use Rattle.lw_order.specs.Roles.{all_roles, without, LeavesAlone, HasEachOnce}
 use Rattle.lw_order.specs.Owned.{Owns}
 use Rattle.lw_order.specs.Numbered.{IsNumbered, TasksBelow, CallsFit}
 use Rattle.lw_order.specs.Promised.{Follows, longer}
-use Rattle.lw_order.specs.Rule.{IsRoleWithin, Stands, KeepsOrder}
+use Rattle.lw_order.specs.Rule.{IsRoleWithin, Stands, with_word, KeepsOrder}
 use Rattle.lw_order.specs.Plays.{view_of, first_view, spent_view, old_of, Learned, Stamped}
 use Rattle.lw_order.proofs.RoleLaws.{all_from_members, was_there, only_role, leaves_others}
 use Rattle.lw_order.proofs.OnceLaws.{one_once, both_once, without_once, all_roles_once}
@@ -51,7 +51,7 @@ stands_alone sizes whole roles history follows fits once =
     record { follows = follows; roles_fit = fits; once = once; olds_follow = All-nil (λ (o : Old). Follows o.roles o.history history) }
 
 -- the start
-pub starts : (sizes : Sizes) → sizes.tasks < 2 ^ 32 → KeepsOrder sizes (0 ∷ []) (first_view sizes ∷ [])
+pub starts : (sizes : Sizes) → sizes.tasks < 2 ^ 32 → KeepsOrder sizes (with_word 0) (first_view sizes ∷ [])
 starts sizes fits = (
   [],
   record {
@@ -133,13 +133,13 @@ joins_seats sizes words views seat v other w (whole, k) at apart there =
 
 -- the load after a join, which leaves the word
 pub learns : (sizes : Sizes) (words : List ℕ) (views : List View) (seat : ℕ) (v : View) (known : Sizes) → sizes ≡ known → KeepsOrder sizes words views → get_elem? views seat ≡ some v
-    → KeepsOrder sizes (set words 0 (slice_index words 0)) (set views seat (view_of v.history v.roles)) × Learned known v (view_of v.history v.roles)
+    → KeepsOrder sizes (set words 8 (slice_index words 8)) (set views seat (view_of v.history v.roles)) × Learned known v (view_of v.history v.roles)
 learns sizes words views seat v known same (whole, k) at =
     let mine = k.stands seat v at in (
       (
         whole,
         record {
-          word = ap (λ ws. set ws 0 (slice_index ws 0)) k.word;
+          word = ap (λ ws. set ws 8 (slice_index ws 8)) k.word;
           stands = stands_set sizes whole views seat (view_of v.history v.roles) (λ j u apart e. k.stands j u e) (stands_alone sizes whole v.roles v.history mine.follows mine.roles_fit mine.once);
           held_once = held_once_set views seat v (view_of v.history v.roles) k.held_once at (λ role h. h);
           numbered = k.numbered;
@@ -199,15 +199,15 @@ grown : (n m : ℕ) → n + 1 < 18446744073709551616 → m ≡ n + 1 → (n + 1)
 grown n m fits is = omega arith
 
 -- the word is the length of the history that has one step more
-word_after : (words : List ℕ) (whole : List Entry) (e : Entry) → words ≡ length whole ∷ [] → length whole + 1 < 18446744073709551616 → set words 0 ((slice_index words 0 + 1) % 2 ^ 64) ≡ length (whole ++ e ∷ []) ∷ []
+word_after : (words : List ℕ) (whole : List Entry) (e : Entry) → words ≡ with_word (length whole) → length whole + 1 < 18446744073709551616 → set words 8 ((slice_index words 8 + 1) % 2 ^ 64) ≡ with_word (length (whole ++ e ∷ []))
 word_after words whole e is fits =
-    ap (λ ws. set ws 0 ((slice_index ws 0 + 1) % 2 ^ 64)) is
-    ∙ ap (λ n. n ∷ []) (grown (length whole) (length (whole ++ e ∷ [])) fits (length-append whole (e ∷ [])))
+    ap (λ ws. set ws 8 ((slice_index ws 8 + 1) % 2 ^ 64)) is
+    ∙ ap with_word (grown (length whole) (length (whole ++ e ∷ [])) fits (length-append whole (e ∷ [])))
 
 -- the stamp
 pub stamps : (sizes : Sizes) (words : List ℕ) (views : List View) (seat : ℕ) (v : View) (known : Sizes) (task : ℕ) (call : Call) → sizes ≡ known → Owns sizes.slots v.roles (touch_of task call) → IsTrue (call_fits sizes call) → count_of task v.history < 4294967295
     → KeepsOrder sizes words views → get_elem? views seat ≡ some v
-    → (w : View) × KeepsOrder sizes (set words 0 ((slice_index words 0 + 1) % 2 ^ 64)) (set views seat w) × Stamped known task call (slice_index words 0) v w
+    → (w : View) × KeepsOrder sizes (set words 8 ((slice_index words 8 + 1) % 2 ^ 64)) (set views seat w) × Stamped known task call (slice_index words 8) v w
 stamps sizes words views seat v known task call same owns fits room (whole, k) at =
     let mine = k.stands seat v at in
     let e = step_of task call whole in
@@ -248,7 +248,7 @@ stamps sizes words views seat v known task call same owns fits room (whole, k) a
           between = before.rest;
           history = ap (λ l. l ++ step_of task call l ∷ []) before.prefix;
           quiet = before.quiet;
-          place = ap (λ ws. slice_index ws 0) k.word ∙ ap length before.prefix;
+          place = ap (λ ws. slice_index ws 8) k.word ∙ ap length before.prefix;
         };
         numbered = numbered;
         tasks_fit = subst (λ (s : Sizes). TasksBelow s.tasks new) same tasks_fit;

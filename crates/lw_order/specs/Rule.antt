@@ -33,10 +33,15 @@ HeldOnce views =
     (i j : ℕ) (v w : View) (role : Role) → get_elem? views i ≡ some v → get_elem? views j ≡ some w → Contains v.roles role
     → Contains w.roles role → i ≡ j
 
+-- The words that an order word lies among, of which it alone is used: eight on each side, or seven, so that nothing else that is
+-- written lies in its cache line.
+abbrev pub with_word : ℕ → List ℕ
+with_word n = 0 ∷ 0 ∷ 0 ∷ 0 ∷ 0 ∷ 0 ∷ 0 ∷ 0 ∷ n ∷ 0 ∷ 0 ∷ 0 ∷ 0 ∷ 0 ∷ 0 ∷ 0 ∷ []
+
 -- This history is the whole one: the word is its length, and each view stands well in it. Its steps are numbered, of
 -- tasks below the number of tasks and of calls that fit, and no task has more steps than can be numbered.
 pub record Keeps (sizes : Sizes) (words : List ℕ) (views : List View) (whole : List Entry) : Type 0 where
-  pub word : words ≡ length whole ∷ []
+  pub word : words ≡ with_word (length whole)
   pub stands : (seat : ℕ) (v : View) → get_elem? views seat ≡ some v → Stands sizes whole v
   pub held_once : HeldOnce views
   pub numbered : IsNumbered whole

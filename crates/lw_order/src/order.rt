@@ -16,6 +16,9 @@ use lw_calls::{Call, Role, Sizes};
 use std::alloc::{AllocError, Global};
 use std::marker::{Brand, Model};
 
+// Which of the sixteen words is used: the eight before it and the seven behind keep its cache line free of all else that is written.
+const WORD: usize = 8;
+
 /// One atomic word, the length of the history. Contracts see which word it is, and for which sizes.
 #[derive(Drop)]
 pub struct Order {
@@ -30,7 +33,7 @@ impl Model for Order {
 
     ghost view = { λ o. record { word = o.table.shared.table_id; sizes = o.table.shared.key } };
 
-    ghost invariant = { λ o. (o.table.shared.table_id.words ≡ 1) × (o.table.shared.table_id.slots ≡ 0) };
+    ghost invariant = { λ o. (o.table.shared.table_id.words ≡ 16) × (o.table.shared.table_id.slots ≡ 0) };
 }
 
 impl Order {
@@ -43,7 +46,7 @@ impl Order {
     {
         // A proof learns that the number is in its type's range where it is read.
         let _tasks = sizes.tasks;
-        let (table, token) = Table::of_words(alloc, &[0], sizes)?;
+        let (table, token) = Table::of_words(alloc, &[0; 16], sizes)?;
         Ok((Order { table }, Seat { token }))
     }
 
@@ -102,7 +105,7 @@ impl Order {
         ensures slots { token.new.me.1 ≡ [] }
         ensures learned { Learned N.sizes token.old.me.0 token.new.me.0 }
     {
-        self.table.shared.load::<Learn<N>>(token, 0);
+        self.table.shared.load::<Learn<N>>(token, WORD);
     }
 
     /// Stamps a call of a task, which is a number from 0 on: the call is then the last step of the history that the seat knows,
@@ -140,7 +143,7 @@ impl Order {
     {
         self.table
             .shared
-            .fetch_add::<Stamp<N>>(&mut seat.token, 0, 1)
+            .fetch_add::<Stamp<N>>(&mut seat.token, WORD, 1)
     }
 }
 
