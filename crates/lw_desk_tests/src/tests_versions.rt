@@ -125,6 +125,14 @@ fn open_and_close<R: Abort>(rt: &R, alloc: Global) -> Result<Vec<Call>, AllocErr
     ]?)
 }
 
+// These calls, and then those.
+fn followed_by(mut calls: Vec<Call>, more: Vec<Call>) -> Result<Vec<Call>, AllocError> {
+    for call in more {
+        calls.push(call)?;
+    }
+    Ok(calls)
+}
+
 // The hook gives pen 1 to the columns that the window was created with and to those that come back, and the fill pen 0 to one.
 #[test]
 fn a_window_has_what_the_next_one_in_its_slot_will_not_have(rt: HostRuntime) -> Result<(), Fail> {
@@ -147,13 +155,15 @@ fn a_layer_in_a_slot_that_is_opened_again_has_nothing_of_a_former_window(
     rt: HostRuntime,
 ) -> Result<(), Fail> {
     let alloc = rt.alloc();
-    let mut calls = open_and_close(&rt, alloc)?;
-    calls.push(fill(&rt, 0, 0, 1))?;
-    calls.push(create(Kind::Simple))?;
-    calls.push(create(Kind::Simple))?;
-    calls.push(Call::TakeMessage { slot: 0 })?;
-    calls.push(Call::Unclip { slot: 0 })?;
-    calls.push(fill(&rt, 0, 0, 1))?;
+    let more = vec![in alloc;
+        fill(&rt, 0, 0, 1),
+        create(Kind::Simple),
+        create(Kind::Simple),
+        Call::TakeMessage { slot: 0 },
+        Call::Unclip { slot: 0 },
+        fill(&rt, 0, 0, 1),
+    ]?;
+    let calls = followed_by(open_and_close(&rt, alloc)?, more)?;
     let last = left_by(&rt, alloc, calls)?;
     shows(&rt, &last, &[0x03, 0]);
     let seen = layer_of(&last)?;
@@ -182,13 +192,15 @@ fn a_window_in_a_slot_that_is_opened_again_has_nothing_of_the_former_one(
     rt: HostRuntime,
 ) -> Result<(), Fail> {
     let alloc = rt.alloc();
-    let mut calls = open_and_close(&rt, alloc)?;
-    calls.push(open(alloc, None, 9))?;
-    calls.push(Call::TakeMessage { slot: 0 })?;
-    calls.push(Call::Unclip { slot: 0 })?;
-    calls.push(Call::Activate { slot: 0 })?;
-    calls.push(move_by(8, 0))?;
-    calls.push(move_by(-8, 0))?;
+    let more = vec![in alloc;
+        open(alloc, None, 9),
+        Call::TakeMessage { slot: 0 },
+        Call::Unclip { slot: 0 },
+        Call::Activate { slot: 0 },
+        move_by(8, 0),
+        move_by(-8, 0),
+    ]?;
+    let calls = followed_by(open_and_close(&rt, alloc)?, more)?;
     let last = left_by(&rt, alloc, calls)?;
     shows(&rt, &last, &[0, 0]);
     is_window(
@@ -243,19 +255,39 @@ static OVER_EDGES: [(i32, i32, [u8; 2], i16, i16); 4] = [
     (0, 1, [0, 0], 0, 3),
 ];
 
+// What is left of a layer that went and came back.
+fn comes_back<R: Threads + Wait + Sync + Abort>(
+    rt: &R,
+    alloc: Global,
+    kind: Kind,
+    dx: i32,
+    dy: i32,
+) -> Result<Final, AllocError> {
+    let calls = leaving(rt, alloc, kind, dx, dy)?;
+    left_by(rt, alloc, calls)
+}
+
+// The screen has this row, and the layer this damage.
+fn has_lost<R: Abort>(rt: &R, last: &Final, row: &[u8], damage: &[Rect]) -> Result<(), Fail> {
+    shows(rt, last, row);
+    assert_eq!(rt; layer_of(last)?.damage.rects(), damage);
+    Ok(())
+}
+
 #[test]
-fn layers_go_over_each_edge_and_back(rt: HostRuntime) -> Result<(), Fail> {
-    let alloc = rt.alloc();
+fn smart_layers_go_over_each_edge_and_back(rt: HostRuntime) -> Result<(), Fail> {
+    for (dx, dy, _, _, _) in &OVER_EDGES {
+        let last = comes_back(&rt, rt.alloc(), Kind::Smart, *dx, *dy)?;
+        has_lost(&rt, &last, &[0x03, 0xc0], &[])?;
+    }
+    Ok(())
+}
+
+#[test]
+fn simple_layers_lose_what_goes_over_an_edge(rt: HostRuntime) -> Result<(), Fail> {
     for (dx, dy, row, from, to) in &OVER_EDGES {
-        let calls = leaving(&rt, alloc, Kind::Smart, *dx, *dy)?;
-        let smart = left_by(&rt, alloc, calls)?;
-        shows(&rt, &smart, &[0x03, 0xc0]);
-        assert!(rt; layer_of(&smart)?.damage.rects().is_empty());
-        let calls = leaving(&rt, alloc, Kind::Simple, *dx, *dy)?;
-        let simple = left_by(&rt, alloc, calls)?;
-        shows(&rt, &simple, row.as_slice());
-        let lost = [columns(&rt, *from, *to)];
-        assert_eq!(rt; layer_of(&simple)?.damage.rects(), lost.as_slice());
+        let last = comes_back(&rt, rt.alloc(), Kind::Simple, *dx, *dy)?;
+        has_lost(&rt, &last, row.as_slice(), &[columns(&rt, *from, *to)])?;
     }
     Ok(())
 }
