@@ -2,6 +2,8 @@
 #![tactic(auto)]
 
 #[cfg(test)]
+mod expected;
+#[cfg(test)]
 mod tests_audit;
 #[cfg(test)]
 mod tests_commands;

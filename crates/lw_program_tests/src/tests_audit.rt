@@ -1,19 +1,20 @@
+use crate::expected::{NEVER, USUAL, assert_answer, assert_answer_to, joined, streams_of};
 use crate::tests_first::{FIRST_FILL, FIRST_FILL_REPORT};
-use lw_answers::{answer_to, sink_of, source_of};
-use lw_top::{Status, audit};
+use lw_io::MemSink;
+use lw_top::{Reason, Status, audit};
 use std::alloc::{AllocError, Global};
+use std::process::Abort;
 use std::test::Fail;
 
-// What `audit` answers to the first fill and this report, and what it writes.
-fn audit_of(alloc: Global, report: &[u8]) -> Result<(Status, Vec<u8>), AllocError> {
-    let mut input = Vec::from_slice(alloc, FIRST_FILL)?;
-    input.extend_from_slice(b"report\n")?;
-    input.extend_from_slice(report)?;
-    let mut source = source_of(alloc, input.as_slice(), 4096, &[])?;
-    let mut sink = sink_of(alloc, 4096, 4096, &[])?;
+// What `audit` answers to the first fill and a report, and the sink into which it writes. The report begins as that of the first
+// fill, with so many of its bytes.
+fn audit_of(alloc: Global, kept: usize, behind: &[u8]) -> Result<(Status, MemSink), AllocError> {
+    let begun = FIRST_FILL_REPORT.get(..kept).unwrap_or(b"");
+    let input = joined(alloc, &[FIRST_FILL, b"report\n", begun, behind])?;
+    let reads = (USUAL, NEVER);
+    let (mut source, mut sink) = streams_of(alloc, input.as_slice(), reads, (4096, USUAL, NEVER))?;
     let status = audit(alloc, &mut source, &mut sink, Vec::new(alloc));
-    let text = Vec::from_slice(alloc, sink.bytes())?;
-    Ok((status, text))
+    Ok((status, sink))
 }
 
 // What is done to the report of the first fill: so many of its bytes are kept, and this stands behind them; and the answer.
@@ -66,13 +67,9 @@ static CHANGED: [(usize, &str, Status, &str); 10] = [
 
 #[test]
 fn reports_are_audited(rt: HostRuntime) -> Result<(), Fail> {
-    let alloc = rt.alloc();
     for (kept, behind, due, line) in CHANGED.iter() {
-        let mut report = Vec::from_slice(alloc, FIRST_FILL_REPORT.get(..*kept).unwrap_or(b""))?;
-        report.extend_from_slice(behind.as_bytes())?;
-        let (status, text) = audit_of(alloc, report.as_slice())?;
-        assert_eq!(rt; status, *due);
-        assert_eq!(rt; text.as_slice(), line.as_bytes());
+        let (status, sink) = audit_of(rt.alloc(), *kept, behind.as_bytes())?;
+        assert_answer(&rt, (status, sink.bytes()), *due, line.as_bytes());
     }
     assert_eq!(rt; Status::Differs { place: 39 }.number(), 7);
     Ok(())
@@ -80,17 +77,36 @@ fn reports_are_audited(rt: HostRuntime) -> Result<(), Fail> {
 
 #[test]
 fn audit_is_a_command_of_a_script_with_a_report(rt: HostRuntime) -> Result<(), Fail> {
-    let alloc = rt.alloc();
-    let mut after = Vec::from_slice(alloc, b"# the report\nreport\n")?;
-    after.extend_from_slice(FIRST_FILL_REPORT)?;
-    let (status, text) = answer_to(&rt, "audit", FIRST_FILL, after.as_slice())?;
-    assert_eq!(rt; status, Status::Done);
-    assert_eq!(rt; text.as_slice(), b"same\n".as_slice());
-    // Without a report, and with an order in its place.
-    let (_, text) = answer_to(&rt, "audit", FIRST_FILL, b"")?;
-    assert_eq!(rt; text.as_slice(), b"refused line 6 missing\n".as_slice());
-    let (_, text) = answer_to(&rt, "audit", FIRST_FILL, b"order\n0 0\n")?;
-    assert_eq!(rt; text.as_slice(), b"refused line 6 misplaced\n".as_slice());
+    let after = joined(rt.alloc(), &[b"# the report\nreport\n", FIRST_FILL_REPORT])?;
+    assert_answer_to(
+        &rt,
+        "audit",
+        (FIRST_FILL, after.as_slice()),
+        Status::Done,
+        b"same\n",
+    )?;
+    Ok(())
+}
+
+// What stands behind the first fill, and the reason for which `audit` refuses it there, with its text.
+static NO_REPORT: [(&[u8], Reason, &[u8]); 2] = [
+    (b"", Reason::Missing, b"refused line 6 missing\n"),
+    (
+        b"order\n0 0\n",
+        Reason::Misplaced,
+        b"refused line 6 misplaced\n",
+    ),
+];
+
+#[test]
+fn an_audit_without_a_report_is_refused(rt: HostRuntime) -> Result<(), Fail> {
+    for (after, reason, text) in NO_REPORT.iter() {
+        let due = Status::Refused {
+            line: 6,
+            reason: *reason,
+        };
+        assert_answer_to(&rt, "audit", (FIRST_FILL, after), due, text)?;
+    }
     Ok(())
 }
 
@@ -106,23 +122,41 @@ fn due_at(place: usize, byte: u8) -> Status {
     }
 }
 
+// The report from a place on, with this byte there.
+fn rest_with(alloc: Global, place: usize, byte: u8) -> Result<Vec<u8>, AllocError> {
+    let rest = FIRST_FILL_REPORT.get(place..).unwrap_or(b"");
+    let mut changed = Vec::from_slice(alloc, rest)?;
+    if let Some(first) = changed.as_mut_slice().first_mut() {
+        *first = byte;
+    }
+    Ok(changed)
+}
+
+// The report with this byte at a place, where another one stands, is refused there.
+fn assert_seen<R: Abort + AllocGlobal>(rt: &R, place: usize, byte: u8) -> Result<(), AllocError> {
+    let alloc = rt.alloc();
+    let rest = rest_with(alloc, place, byte)?;
+    let (status, _) = audit_of(alloc, place, rest.as_slice())?;
+    assert_eq!(rt; status, due_at(place, byte));
+    Ok(())
+}
+
 #[test]
 fn each_byte_of_a_report_is_compared(rt: HostRuntime) -> Result<(), Fail> {
-    let alloc = rt.alloc();
     for place in 0..FIRST_FILL_REPORT.len() {
-        for byte in [b'1', b'7', b'x', b' '] {
-            let mut report = Vec::from_slice(alloc, FIRST_FILL_REPORT)?;
-            if let Some(changed) = report.as_mut_slice().get_mut(place) {
-                *changed = byte;
+        for byte in b"17x ".iter() {
+            if FIRST_FILL_REPORT.get(place) != Some(byte) {
+                assert_seen(&rt, place, *byte)?;
             }
-            if report.as_slice() == FIRST_FILL_REPORT {
-                continue;
-            }
-            let (status, _) = audit_of(alloc, report.as_slice())?;
-            assert_eq!(rt; status, due_at(place, byte));
         }
-        // The report ends there.
-        let (status, _) = audit_of(alloc, FIRST_FILL_REPORT.get(..place).unwrap_or(b""))?;
+    }
+    Ok(())
+}
+
+#[test]
+fn each_end_of_a_report_is_seen(rt: HostRuntime) -> Result<(), Fail> {
+    for place in 0..FIRST_FILL_REPORT.len() {
+        let (status, _) = audit_of(rt.alloc(), place, b"")?;
         let due = Status::Differs {
             place: place as u64,
         };

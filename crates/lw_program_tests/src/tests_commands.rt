@@ -1,7 +1,12 @@
+use crate::expected::{NEVER, assert_answer, assert_answer_to, joined, streams_of};
 use crate::tests_first::FIRST_FILL;
-use lw_answers::{answer_to, answer_with_six, sink_of, source_of};
+use lw_answers::{answer_to, answer_with_six};
 use lw_top::{Status, check, replay_cmd};
+use std::alloc::AllocError;
+use std::process::Abort;
+use std::sync::Wait;
 use std::test::Fail;
+use std::thread::Threads;
 
 // Two tasks, each of which creates a layer and fills it.
 const TWO_TASKS: &[u8] = b"screen 16 1 1
@@ -49,17 +54,18 @@ end
 order
 ";
 
+// An order stands on any number of lines, some of them skipped.
+static ORDERS: [(&[u8], &[u8]); 2] = [
+    (b"0 1 0 1\n", b"order 4\n0 1 0 1\n"),
+    (b"# a\n1\n\n0 1\n0", b"order 4\n1 0 1 0\n"),
+];
+
 #[test]
 fn replay_runs_several_tasks_in_a_legal_order(rt: HostRuntime) -> Result<(), Fail> {
-    let alloc = rt.alloc();
-    // An order stands on any number of lines, some of them skipped.
-    let orders: [(&[u8], &str); 2] = [(b"0 1 0 1\n", "0 1 0 1"), (b"# a\n1\n\n0 1\n0", "1 0 1 0")];
-    for (order, numbers) in orders {
-        let (status, text) = answer_to(&rt, "replay", TWO_TASKS, order)?;
-        let mut report = format!(in alloc; "order 4\n{numbers}\n")?.into_bytes();
-        report.extend_from_slice(TWO_TASKS_AFTER_ORDER)?;
-        assert_eq!(rt; status, Status::Done);
-        assert_eq!(rt; text.as_slice(), report.as_slice());
+    for (order, head) in ORDERS.iter() {
+        let report = joined(rt.alloc(), &[head, TWO_TASKS_AFTER_ORDER])?;
+        let input = (TWO_TASKS, *order);
+        assert_answer_to(&rt, "replay", input, Status::Done, report.as_slice())?;
     }
     Ok(())
 }
@@ -99,13 +105,24 @@ static REFUSED: [(&str, &[u8], &[u8], &str); 11] = [
     ("ilbm", FIRST_FILL, b"", "refused line 6 missing\n"),
 ];
 
+// The line has to be written, with the exit status of its kind.
+fn assert_refused<R: Threads + Wait + Abort + AllocGlobal + Sync>(
+    rt: &R,
+    command: &str,
+    (script, after): (&[u8], &[u8]),
+    line: &str,
+) -> Result<(), AllocError> {
+    let (status, text) = answer_to(rt, command, script, after)?;
+    let number = if line.starts_with("bad order") { 8 } else { 1 };
+    assert_eq!(rt; status.number(), number);
+    assert_eq!(rt; text.as_slice(), line.as_bytes());
+    Ok(())
+}
+
 #[test]
 fn commands_refuse_orders_and_inputs(rt: HostRuntime) -> Result<(), Fail> {
     for (command, script, after, line) in REFUSED.iter() {
-        let (status, text) = answer_to(&rt, command, script, after)?;
-        let number = if line.starts_with("bad order") { 8 } else { 1 };
-        assert_eq!(rt; status.number(), number);
-        assert_eq!(rt; text.as_slice(), line.as_bytes());
+        assert_refused(&rt, command, (script, after), line)?;
     }
     Ok(())
 }
@@ -143,32 +160,41 @@ end
 
 #[test]
 fn check_writes_the_canonical_text(rt: HostRuntime) -> Result<(), Fail> {
-    let (status, text) = answer_to(&rt, "check", FIRST_FILL_WITH_NOTE, b"")?;
-    assert_eq!(rt; status, Status::Done);
-    assert_eq!(rt; text.as_slice(), FIRST_FILL);
+    assert_answer_to(
+        &rt,
+        "check",
+        (FIRST_FILL_WITH_NOTE, b""),
+        Status::Done,
+        FIRST_FILL,
+    )?;
     let (status, text) = answer_with_six(&rt, "check", CANONICAL, b"")?;
-    assert_eq!(rt; status, Status::Done);
-    assert_eq!(rt; text.as_slice(), CANONICAL);
+    assert_answer(&rt, (status, text.as_slice()), Status::Done, CANONICAL);
     Ok(())
 }
 
 #[test]
 fn commands_are_calls_of_their_own(rt: HostRuntime) -> Result<(), Fail> {
     let alloc = rt.alloc();
-    let mut source = source_of(alloc, FIRST_FILL, 50, &[1])?;
-    let mut full = sink_of(alloc, 10, 4, &[])?;
+    let (mut source, mut full) = streams_of(alloc, FIRST_FILL, (50, 1), (10, 4, NEVER))?;
     let status = check(alloc, &mut source, &mut full, 0);
-    assert_eq!(rt; status, Status::ReadFault);
-    assert_eq!(rt; full.bytes().len(), 0);
+    assert_answer(&rt, (status, full.bytes()), Status::ReadFault, b"");
     // What is left is an input of its own, whose first line is a bad one.
     let status = check(alloc, &mut source, &mut full, 0);
-    assert_eq!(rt; status, Status::WriteFault);
-    assert_eq!(rt; full.bytes(), b"refused li".as_slice());
-    // An order that isn't legal, and a sink that fails.
-    let mut source = source_of(alloc, TWO_TASKS, 50, &[])?;
-    let mut failing = sink_of(alloc, 4096, 4, &[1])?;
+    assert_answer(
+        &rt,
+        (status, full.bytes()),
+        Status::WriteFault,
+        b"refused li",
+    );
+    Ok(())
+}
+
+// An order that isn't legal, and a sink that fails.
+#[test]
+fn a_sink_fails_while_an_order_is_refused(rt: HostRuntime) -> Result<(), Fail> {
+    let alloc = rt.alloc();
+    let (mut source, mut failing) = streams_of(alloc, TWO_TASKS, (50, NEVER), (4096, 4, 1))?;
     let status = replay_cmd(alloc, &mut source, &mut failing, Vec::new(alloc));
-    assert_eq!(rt; status, Status::WriteFault);
-    assert_eq!(rt; failing.bytes(), b"bad ".as_slice());
+    assert_answer(&rt, (status, failing.bytes()), Status::WriteFault, b"bad ");
     Ok(())
 }

@@ -1,29 +1,26 @@
+use crate::expected::{NEVER, USUAL, assert_read, assert_written, streams_of, words_of};
 use crate::tests_first::{FIRST_FILL, FIRST_FILL_REPORT};
-use lw_answers::{sink_of, source_of, word};
+use lw_io::MemSink;
 use lw_locks::OpenGate;
 use lw_top::{Status, layers};
 use std::alloc::AllocError;
+use std::process::Abort;
 use std::sync::Wait;
 use std::test::Fail;
 use std::thread::Threads;
 
-// A number that no call has, and how many bytes the calls of a stream move usually.
-const NEVER: u32 = 4_294_967_295;
-
-const USUAL: usize = 4096;
-
-// What `run` answers to the first so many bytes of the first fill, and what it writes, where a call of each stream may fail.
+// What `run` answers to the first so many bytes of the first fill, and the sink into which it writes, where a call of each stream
+// may fail.
 fn run_of_cut<R: Threads + Wait + AllocGlobal + Sync>(
     rt: &R,
     cut: usize,
-    (read_step, read_fault): (usize, u32),
-    (room, write_step, write_fault): (usize, usize, u32),
-) -> Result<(Status, Vec<u8>), AllocError> {
+    read: (usize, u32),
+    write: (usize, usize, u32),
+) -> Result<(Status, MemSink), AllocError> {
     let alloc = rt.alloc();
-    let words = vec![in alloc; word(alloc, "run")?]?;
+    let words = words_of(alloc, &["run"])?;
     let script = FIRST_FILL.get(..cut).unwrap_or(FIRST_FILL);
-    let mut source = source_of(alloc, script, read_step, &[read_fault])?;
-    let mut sink = sink_of(alloc, room, write_step, &[write_fault])?;
+    let (mut source, mut sink) = streams_of(alloc, script, read, write)?;
     let status = layers(
         rt,
         alloc,
@@ -33,8 +30,7 @@ fn run_of_cut<R: Threads + Wait + AllocGlobal + Sync>(
         Vec::new(alloc),
         &OpenGate,
     );
-    let text = Vec::from_slice(alloc, sink.bytes())?;
-    Ok((status, text))
+    Ok((status, sink))
 }
 
 // How many bytes of the script there are; how many bytes a read moves, and the one that fails; the same of writes; and the exit
@@ -114,51 +110,73 @@ static FAULTS: [(usize, (usize, u32), (usize, u32), u8, &str, usize); 16] = [
     ),
 ];
 
+// The exit status has to be this one, and what was written so many bytes of a text.
+fn assert_exit<R: Abort>(
+    rt: &R,
+    (status, written): (Status, &[u8]),
+    number: u8,
+    text: &[u8],
+    count: usize,
+) {
+    assert_eq!(rt; status.number(), number);
+    assert_eq!(rt; Some(written), text.get(..count));
+}
+
 #[test]
 fn cut_scripts_and_faulty_streams(rt: HostRuntime) -> Result<(), Fail> {
     for (cut, read, (step, fault), number, refusal, count) in FAULTS.iter() {
-        let (status, text) = run_of_cut(&rt, *cut, *read, (4096, *step, *fault))?;
-        assert_eq!(rt; status.number(), *number);
-        let due = if refusal.is_empty() {
+        let (status, sink) = run_of_cut(&rt, *cut, *read, (4096, *step, *fault))?;
+        let text = if refusal.is_empty() {
             FIRST_FILL_REPORT
         } else {
             refusal.as_bytes()
         };
-        assert_eq!(rt; Some(text.as_slice()), due.get(..*count));
-    }
-    // The sink's room is used up.
-    for room in [0, 10, 107, 108] {
-        let (status, text) = run_of_cut(&rt, 69, (USUAL, NEVER), (room, 10, NEVER))?;
-        assert_eq!(rt; status == Status::Done, room == 108);
-        assert_eq!(rt; Some(text.as_slice()), FIRST_FILL_REPORT.get(..room));
+        assert_exit(&rt, (status, sink.bytes()), *number, text, *count);
     }
     Ok(())
 }
 
+// The rooms of sinks that a report uses up.
+static ROOMS: [usize; 4] = [0, 10, 107, 108];
+
 #[test]
-fn each_read_and_each_write_fails_in_turn(rt: HostRuntime) -> Result<(), Fail> {
-    // The bytes that a call moves, and how many reads and writes there are: each byte is read, and then the end is found.
-    for (step, reads, writes) in [(1, 70, 108), (USUAL, 2, 1)] {
-        for fault in 0..=reads {
-            let (status, text) = run_of_cut(&rt, 69, (step, fault), (4096, USUAL, NEVER))?;
-            let due = if fault == reads {
-                Status::Done
-            } else {
-                Status::ReadFault
-            };
-            assert_eq!(rt; status, due);
-            assert_eq!(rt; text.is_empty(), fault < reads);
+fn a_full_sink_has_what_it_has_room_for(rt: HostRuntime) -> Result<(), Fail> {
+    for room in ROOMS.iter() {
+        let (status, sink) = run_of_cut(&rt, 69, (USUAL, NEVER), (*room, 10, NEVER))?;
+        assert_written(&rt, (status, sink.bytes()), *room, FIRST_FILL_REPORT);
+    }
+    Ok(())
+}
+
+// The bytes that a read moves, and how many reads there are: each byte is read, and then the end is found.
+static READS: [(usize, u32); 2] = [(1, 70), (USUAL, 2)];
+
+#[test]
+fn each_read_fails_in_turn(rt: HostRuntime) -> Result<(), Fail> {
+    for (step, reads) in READS.iter() {
+        for fault in 0..=*reads {
+            let (status, sink) = run_of_cut(&rt, 69, (*step, fault), (4096, USUAL, NEVER))?;
+            let fails = fault < *reads;
+            assert_read(&rt, (status, sink.bytes()), fails, FIRST_FILL_REPORT);
         }
-        for fault in 0..=writes {
-            let (status, text) = run_of_cut(&rt, 69, (USUAL, NEVER), (4096, step, fault))?;
-            let due = if fault == writes {
-                Status::Done
+    }
+    Ok(())
+}
+
+// The bytes that a write moves, and how many writes there are.
+static WRITES: [(usize, u32); 2] = [(1, 108), (USUAL, 1)];
+
+#[test]
+fn each_write_fails_in_turn(rt: HostRuntime) -> Result<(), Fail> {
+    for (step, writes) in WRITES.iter() {
+        for fault in 0..=*writes {
+            let (status, sink) = run_of_cut(&rt, 69, (USUAL, NEVER), (4096, *step, fault))?;
+            let count = if fault == *writes {
+                108
             } else {
-                Status::WriteFault
+                fault as usize
             };
-            let count = if fault == writes { 108 } else { fault as usize };
-            assert_eq!(rt; status, due);
-            assert_eq!(rt; Some(text.as_slice()), FIRST_FILL_REPORT.get(..count));
+            assert_written(&rt, (status, sink.bytes()), count, FIRST_FILL_REPORT);
         }
     }
     Ok(())
@@ -183,28 +201,41 @@ fn reason_of(letter: u8) -> &'static str {
     }
 }
 
+// For so many bytes of the script this text is written.
+fn assert_text_of_cut<R: Threads + Wait + Abort + AllocGlobal + Sync>(
+    rt: &R,
+    cut: usize,
+    text: &[u8],
+) -> Result<(), AllocError> {
+    let (_, sink) = run_of_cut(rt, cut, (USUAL, NEVER), (4096, USUAL, NEVER))?;
+    assert_eq!(rt; sink.bytes(), text);
+    Ok(())
+}
+
+// So many bytes of the script, of which those of the last line follow so many lines, are answered as a letter says.
+fn assert_said<R: Threads + Wait + Abort + AllocGlobal + Sync>(
+    rt: &R,
+    cut: usize,
+    above: usize,
+    letter: u8,
+) -> Result<(), AllocError> {
+    if letter == b'd' {
+        return assert_text_of_cut(rt, cut, FIRST_FILL_REPORT);
+    }
+    let line = above.saturating_add(if letter == b'm' { 2 } else { 1 });
+    let reason = reason_of(letter);
+    let due = format!(in rt.alloc(); "refused line {line} {reason}\n")?;
+    assert_text_of_cut(rt, cut, due.as_bytes())
+}
+
 #[test]
 fn each_cut_of_a_script_is_answered(rt: HostRuntime) -> Result<(), Fail> {
-    let alloc = rt.alloc();
-    let (_, text) = run_of_cut(&rt, 0, (USUAL, NEVER), (4096, USUAL, NEVER))?;
-    assert_eq!(rt; text.as_slice(), b"refused line 1 missing\n".as_slice());
+    assert_text_of_cut(&rt, 0, b"refused line 1 missing\n")?;
     let mut cut: usize = 0;
     for (above, letters) in SAID.iter().enumerate() {
         for letter in letters.iter() {
             cut = cut.saturating_add(1);
-            let (_, text) = run_of_cut(&rt, cut, (USUAL, NEVER), (4096, USUAL, NEVER))?;
-            if *letter == b'd' {
-                assert_eq!(rt; text.as_slice(), FIRST_FILL_REPORT);
-                continue;
-            }
-            let line = if *letter == b'm' {
-                above + 2
-            } else {
-                above + 1
-            };
-            let reason = reason_of(*letter);
-            let due = format!(in alloc; "refused line {line} {reason}\n")?;
-            assert_eq!(rt; text.as_slice(), due.as_bytes());
+            assert_said(&rt, cut, above, *letter)?;
         }
     }
     assert_eq!(rt; cut, 69);

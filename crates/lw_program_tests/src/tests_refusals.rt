@@ -1,7 +1,9 @@
+use crate::expected::assert_answer_to;
 use crate::tests_first::{FIRST_FILL, FIRST_FILL_REPORT};
-use lw_answers::{answer_to, answer_with_six};
+use lw_answers::answer_with_six;
 use lw_top::Status;
 use std::alloc::{AllocError, Global};
+use std::process::Abort;
 use std::sync::Wait;
 use std::test::Fail;
 use std::thread::Threads;
@@ -79,25 +81,27 @@ static COUNTED: [(Pieces, u32, &str, &str); 16] = [
     (CALLS_2, 16383, "which 0 0\n", "16388 missing"),
 ];
 
-/// Whether `run` of a script, with six hooks, is refused on this line for this reason, with its text.
-pub fn is_refused<R: Threads + Wait + AllocGlobal + Sync>(
+/// `run` of a script, with six hooks, is refused on this line for this reason, with its text.
+pub fn assert_refused<R: Threads + Wait + Abort + AllocGlobal + Sync>(
     rt: &R,
     script: &str,
     refused: &str,
-) -> Result<bool, AllocError> {
-    let (status, text) = answer_with_six(rt, "run", script.as_bytes(), b"")?;
+) -> Result<(), AllocError> {
     let due = format!(in rt.alloc(); "refused line {refused}\n")?;
-    Ok(status.number() == 1 && text.as_slice() == due.as_bytes())
+    let (status, text) = answer_with_six(rt, "run", script.as_bytes(), b"")?;
+    assert_eq!(rt; status.number(), 1, "{refused}");
+    assert_eq!(rt; text.as_slice(), due.as_bytes());
+    Ok(())
 }
 
 #[test]
 fn each_reason_refuses_a_script(rt: HostRuntime) -> Result<(), Fail> {
     for (lines, refused) in IN_A_TASK.iter() {
         let script = format!(in rt.alloc(); "screen 16 4 1\ntask a\n{lines}")?;
-        assert!(rt; is_refused(&rt, script.as_str(), refused)?, "{refused}");
+        assert_refused(&rt, script.as_str(), refused)?;
     }
     for (script, refused) in WITHOUT_A_TASK.iter() {
-        assert!(rt; is_refused(&rt, script, refused)?, "{refused}");
+        assert_refused(&rt, script, refused)?;
     }
     Ok(())
 }
@@ -128,27 +132,29 @@ fn bytes_names_bitmaps_and_calls_are_counted(rt: HostRuntime) -> Result<(), Fail
     let alloc = rt.alloc();
     for (pieces, count, after, refused) in COUNTED.iter() {
         let script = script_of(alloc, *pieces, *count, after)?;
-        assert!(rt; is_refused(&rt, script.as_str(), refused)?, "{refused}");
+        assert_refused(&rt, script.as_str(), refused)?;
     }
     Ok(())
 }
 
-// What `run` answers to the first script with so many line feeds after it.
-fn answer_with_feeds<R: Threads + Wait + AllocGlobal + Sync>(
-    rt: &R,
-    feeds: usize,
-) -> Result<(Status, Vec<u8>), AllocError> {
-    let after = vec![in rt.alloc(); b'\n'; feeds]?;
-    answer_to(rt, "run", FIRST_FILL, after.as_slice())
-}
-
 #[test]
 fn an_input_has_4194304_bytes_at_most(rt: HostRuntime) -> Result<(), Fail> {
-    let (status, text) = answer_with_feeds(&rt, 4_194_236)?;
-    assert_eq!(rt; status, Status::TooLong);
-    assert_eq!(rt; text.as_slice(), b"too long\n".as_slice());
-    let (status, text) = answer_with_feeds(&rt, 4_194_235)?;
-    assert_eq!(rt; status, Status::Done);
-    assert_eq!(rt; text.as_slice(), FIRST_FILL_REPORT);
+    // Line feeds behind the first fill.
+    let feeds = vec![in rt.alloc(); b'\n'; 4_194_236]?;
+    let (most, too_many) = (feeds.get(1..).unwrap_or(b""), feeds.as_slice());
+    assert_answer_to(
+        &rt,
+        "run",
+        (FIRST_FILL, most),
+        Status::Done,
+        FIRST_FILL_REPORT,
+    )?;
+    assert_answer_to(
+        &rt,
+        "run",
+        (FIRST_FILL, too_many),
+        Status::TooLong,
+        b"too long\n",
+    )?;
     Ok(())
 }

@@ -1,13 +1,16 @@
 //! Scripts of version 2: larger screens, hooks that are replaced, and layers off the screen.
-use crate::tests_refusals::is_refused;
+use crate::expected::{assert_answer, joined};
+use crate::tests_refusals::assert_refused;
 use lw_answers::{answer_through, answer_with_six};
 use lw_backfill::{Backfill, Solid};
 use lw_locks::{Gate, Spot};
 use lw_top::Status;
 use std::alloc::{AllocError, Global};
-use std::sync::Arc;
+use std::process::Abort;
 use std::sync::atomic::{AtomicU32, Ordering};
+use std::sync::{Arc, Wait};
 use std::test::Fail;
+use std::thread::Threads;
 
 // A simple layer whose hook is replaced, and which then is covered and uncovered, and a layer with a bitmap of its own that gets
 // a hook in a group, and is never filled; and the report.
@@ -54,8 +57,12 @@ done
 #[test]
 fn replaced_hooks_are_reported(rt: HostRuntime) -> Result<(), Fail> {
     let (status, text) = answer_with_six(&rt, "run", REPLACED, b"")?;
-    assert_eq!(rt; status, Status::Done);
-    assert_eq!(rt; text.as_slice(), REPLACED_REPORT);
+    assert_answer(
+        &rt,
+        (status, text.as_slice()),
+        Status::Done,
+        REPLACED_REPORT,
+    );
     Ok(())
 }
 
@@ -92,33 +99,46 @@ static OFF_SCREEN: [(&str, &str, &str); 5] = [
     ),
 ];
 
+// The report of a script's run has to end so.
+fn assert_ends<R: Threads + Wait + Abort + AllocGlobal + Sync>(
+    rt: &R,
+    script: &[u8],
+    due: &[u8],
+    calls: &str,
+) -> Result<(), AllocError> {
+    let (status, text) = answer_with_six(rt, "run", script, b"")?;
+    assert_eq!(rt; status, Status::Done);
+    assert!(rt; text.as_slice().ends_with(due), "{calls}");
+    Ok(())
+}
+
 #[test]
 fn layers_off_the_screen_are_reported(rt: HostRuntime) -> Result<(), Fail> {
     let alloc = rt.alloc();
     for (first, calls, rest) in OFF_SCREEN.iter() {
         let script = format!(in alloc; "{first}screen 16 1 1\ntask a\n{calls}end\n")?;
-        let (status, text) = answer_with_six(&rt, "run", script.as_bytes(), b"")?;
-        assert_eq!(rt; status, Status::Done);
         let due = format!(in alloc; "\nplanes 16 1 1\nplane 0\n{rest}done\n")?;
-        assert!(rt; text.as_slice().ends_with(due.as_bytes()), "{calls}");
+        assert_ends(&rt, script.as_bytes(), due.as_bytes(), calls)?;
     }
     Ok(())
 }
 
-// A script without calls on a screen of 2,048 columns.
+// A script without calls on a screen of 2,048 columns, in version 1 and in version 2.
 const WIDE: &str = "screen 2048 1 1\ntask a\nend\n";
+
+const WIDE_2: &[u8] = b"layers 2\nscreen 2048 1 1\ntask a\nend\n";
+
+// The report's text before the row and behind it.
+const BEFORE_ROW: &[u8] = b"order 0\nplanes 2048 1 1\nplane 0\n";
+
+const BEHIND_ROW: &[u8] = b"\nreplies a 0\ndone\n";
 
 #[test]
 fn screens_are_wide_in_version_2(rt: HostRuntime) -> Result<(), Fail> {
-    let alloc = rt.alloc();
-    assert!(rt; is_refused(&rt, WIDE, "1 range")?);
-    let script = format!(in alloc; "layers 2\n{WIDE}")?;
-    let (status, text) = answer_with_six(&rt, "run", script.as_bytes(), b"")?;
-    let mut due = Vec::from_slice(alloc, b"order 0\nplanes 2048 1 1\nplane 0\n")?;
-    due.extend_from_slice(vec![in alloc; b'0'; 512]?.as_slice())?;
-    due.extend_from_slice(b"\nreplies a 0\ndone\n")?;
-    assert_eq!(rt; status, Status::Done);
-    assert_eq!(rt; text, due);
+    assert_refused(&rt, WIDE, "1 range")?;
+    let due = joined(rt.alloc(), &[BEFORE_ROW, &[b'0'; 512], BEHIND_ROW])?;
+    let (status, text) = answer_with_six(&rt, "run", WIDE_2, b"")?;
+    assert_answer(&rt, (status, text.as_slice()), Status::Done, due.as_slice());
     Ok(())
 }
 
@@ -137,7 +157,7 @@ fn a_version_has_its_lines(rt: HostRuntime) -> Result<(), Fail> {
         let script = format!(in rt.alloc();
             "{before}screen 16 1 2\n{behind}task a\ncreate w simple front 0 0 3 0 hook 0\n{hook}\nend\n"
         )?;
-        assert!(rt; is_refused(&rt, script.as_str(), refused)?, "{refused}");
+        assert_refused(&rt, script.as_str(), refused)?;
     }
     Ok(())
 }
@@ -200,29 +220,38 @@ fn hooks_of(count: &Arc<(), Global>) -> usize {
     Arc::strong_count(count).saturating_sub(2)
 }
 
-fn counted(count: &Arc<(), Global>) -> Result<CountedHook, AllocError> {
-    Ok(CountedHook {
+// A hook in its box.
+fn counted(alloc: Global, count: &Arc<(), Global>) -> Result<Box<CountedHook>, AllocError> {
+    let hook = CountedHook {
         solid: Solid::new(1),
         count: Arc::try_clone(count)?,
-    })
+    };
+    Ok(Box::new(alloc, hook)?)
+}
+
+// What the run of the script with the three hooks answers, after how many calls as many were there as should be, and how many
+// are there at the end.
+fn run_with_three<R: Threads + Wait + AllocGlobal + Sync>(
+    rt: &R,
+    count: &Arc<(), Global>,
+) -> Result<(Status, u32, usize), AllocError> {
+    let alloc = rt.alloc();
+    let mut hooks: Vec<Box<dyn Backfill + Send>> = Vec::new(alloc);
+    hooks.push(counted(alloc, count)?)?;
+    hooks.push(counted(alloc, count)?)?;
+    hooks.push(counted(alloc, count)?)?;
+    let gate = HookGate {
+        count: Arc::try_clone(count)?,
+        right: AtomicU32::new(0),
+    };
+    let (status, _) = answer_through(rt, hooks, &gate, "run", THREE_HOOKS, b"")?;
+    Ok((status, gate.right.load(Ordering::SeqCst), hooks_of(count)))
 }
 
 #[test]
 fn a_replaced_hook_is_dropped_once(rt: HostRuntime) -> Result<(), Fail> {
-    let alloc = rt.alloc();
-    let count = Arc::new(alloc, ())?;
-    let gate = HookGate {
-        count: Arc::try_clone(&count)?,
-        right: AtomicU32::new(0),
-    };
-    let mut hooks: Vec<Box<dyn Backfill + Send>> = Vec::new(alloc);
-    hooks.push(Box::new(alloc, counted(&count)?)?)?;
-    hooks.push(Box::new(alloc, counted(&count)?)?)?;
-    hooks.push(Box::new(alloc, counted(&count)?)?)?;
-    let (status, _) = answer_through(&rt, hooks, &gate, "run", THREE_HOOKS, b"")?;
-    assert_eq!(rt; status, Status::Done);
-    assert_eq!(rt; gate.right.load(Ordering::SeqCst), 4);
+    let count = Arc::new(rt.alloc(), ())?;
     // What stayed is dropped at the end.
-    assert_eq!(rt; hooks_of(&count), 0);
+    assert_eq!(rt; run_with_three(&rt, &count)?, (Status::Done, 4, 0));
     Ok(())
 }
