@@ -1,5 +1,5 @@
 //! `run` and `demo` with their tasks on threads: tasks that hold one another up, and the reports of many runs.
-use crate::tests_demo::{SEVEN, demo_seven};
+use crate::tests_demo::{SEVEN, assert_seven};
 use crate::tests_realistic::REALISTIC;
 use crate::tests_spots::{Spots, soon_comes_to, waits_for};
 use lw_answers::{answer_through, answer_with_six};
@@ -68,9 +68,7 @@ fn runs_through<R: Threads + Wait + Abort + AllocGlobal + Sync, G: Gate + Sync>(
     let (status, text) = answer_through(rt, Vec::new(rt.alloc()), gate, "run", script, b"")?;
     assert_eq!(rt; status, Status::Done);
     assert!(rt; spots.are_due(plan));
-    let (status, again) = replayed(rt, script, text.as_slice())?;
-    assert_eq!(rt; status, Status::Done);
-    assert_eq!(rt; again.as_slice(), text.as_slice());
+    assert_replayed(rt, script, text.as_slice())?;
     Ok(())
 }
 
@@ -102,13 +100,11 @@ impl Gate for BothBegin {
 
 #[test]
 fn both_tasks_of_a_demo_have_begun(rt: HostRuntime) -> Result<(), Fail> {
-    let plan = lw_gen::plan_of(rt.alloc(), 7, 2)?;
     let gate = BothBegin {
         spots: Spots::new(),
     };
-    let (status, text) = demo_seven(&rt, &gate, 4096)?;
-    assert_eq!(rt; status, Status::Done);
-    assert_eq!(rt; text.as_slice(), SEVEN);
+    assert_seven(&rt, &gate, 4096, Status::Done, SEVEN)?;
+    let plan = lw_gen::plan_of(rt.alloc(), 7, 2)?;
     assert!(rt; gate.spots.are_due(&plan));
     Ok(())
 }
@@ -280,6 +276,36 @@ ff00
 visible w 1
 ";
 
+// Whether the report's planes are those of the hook's pen.
+fn is_hooked(report: &[u8]) -> bool {
+    match order_and_rest(report) {
+        Some((_, rest)) => rest.starts_with(HOOKED_REPORT_PLANES),
+        None => false,
+    }
+}
+
+// Runs the script with the hook through a gate.
+fn runs_with_hook<R: Threads + Wait + Abort + AllocGlobal + Sync, G: Gate + Sync>(
+    rt: &R,
+    hook: Box<dyn Backfill + Send>,
+    gate: &G,
+) -> Result<(), AllocError> {
+    let hooks = vec![in rt.alloc(); hook]?;
+    let (status, text) = answer_through(rt, hooks, gate, "run", HOOK_AND_REGION, b"")?;
+    assert_eq!(rt; status, Status::Done);
+    assert!(rt; is_hooked(text.as_slice()));
+    Ok(())
+}
+
+// The hook in its box.
+fn waiting(alloc: Global, meeting: &Arc<Meeting, Global>) -> Result<Box<WaitingHook>, AllocError> {
+    let hook = WaitingHook {
+        solid: Solid::new(1),
+        meeting: Arc::try_clone(meeting)?,
+    };
+    Ok(Box::new(alloc, hook)?)
+}
+
 #[test]
 fn a_region_call_goes_on_while_a_hook_is_turned(rt: HostRuntime) -> Result<(), Fail> {
     let alloc = rt.alloc();
@@ -289,22 +315,11 @@ fn a_region_call_goes_on_while_a_hook_is_turned(rt: HostRuntime) -> Result<(), F
         late: AtomicU32::new(0),
     };
     let meeting = Arc::new(alloc, meeting)?;
-    let hook = WaitingHook {
-        solid: Solid::new(1),
-        meeting: Arc::try_clone(&meeting)?,
-    };
     let gate = HookMeets {
         meeting: Arc::try_clone(&meeting)?,
     };
-    let mut hooks: Vec<Box<dyn Backfill + Send>> = Vec::new(alloc);
-    hooks.push(Box::new(alloc, hook)?)?;
-    let (status, text) = answer_through(&rt, hooks, &gate, "run", HOOK_AND_REGION, b"")?;
-    assert_eq!(rt; status, Status::Done);
+    runs_with_hook(&rt, waiting(alloc, &meeting)?, &gate)?;
     assert_eq!(rt; meeting.late.load(Ordering::SeqCst), 0);
-    let Some((_, rest)) = order_and_rest(text.as_slice()) else {
-        return Err(Fail::from("a report"));
-    };
-    assert!(rt; rest.starts_with(HOOKED_REPORT_PLANES));
     Ok(())
 }
 
@@ -358,6 +373,15 @@ impl Gate for HookIsWatched {
     }
 }
 
+// The hook in its box.
+fn watched(alloc: Global, watch: &Arc<Watch, Global>) -> Result<Box<WatchedHook>, AllocError> {
+    let hook = WatchedHook {
+        solid: Solid::new(1),
+        watch: Arc::try_clone(watch)?,
+    };
+    Ok(Box::new(alloc, hook)?)
+}
+
 #[test]
 fn a_hook_is_used_while_its_creation_is_made(rt: HostRuntime) -> Result<(), Fail> {
     let alloc = rt.alloc();
@@ -367,22 +391,11 @@ fn a_hook_is_used_while_its_creation_is_made(rt: HostRuntime) -> Result<(), Fail
         wrong: AtomicU32::new(0),
     };
     let watch = Arc::new(alloc, watch)?;
-    let hook = WatchedHook {
-        solid: Solid::new(1),
-        watch: Arc::try_clone(&watch)?,
-    };
     let gate = HookIsWatched {
         watch: Arc::try_clone(&watch)?,
     };
-    let mut hooks: Vec<Box<dyn Backfill + Send>> = Vec::new(alloc);
-    hooks.push(Box::new(alloc, hook)?)?;
-    let (status, text) = answer_through(&rt, hooks, &gate, "run", HOOK_AND_REGION, b"")?;
-    assert_eq!(rt; status, Status::Done);
+    runs_with_hook(&rt, watched(alloc, &watch)?, &gate)?;
     assert_eq!(rt; watch.wrong.load(Ordering::SeqCst), 0);
-    let Some((_, rest)) = order_and_rest(text.as_slice()) else {
-        return Err(Fail::from("a report"));
-    };
-    assert!(rt; rest.starts_with(HOOKED_REPORT_PLANES));
     Ok(())
 }
 
@@ -498,52 +511,70 @@ impl Gate for Kept {
     }
 }
 
+// The first place at which a text has these bytes.
+fn place_of(text: &[u8], bytes: &[u8]) -> Option<usize> {
+    for place in 0..text.len() {
+        if text.get(place..).unwrap_or(b"").starts_with(bytes) {
+            return Some(place);
+        }
+    }
+    None
+}
+
 // The lines of a report's order, without the first one, and the rest from the planes on.
 fn order_and_rest(report: &[u8]) -> Option<(&[u8], &[u8])> {
-    let first = report.iter().position(|byte| *byte == b'\n')?;
-    let planes = report
-        .windows(7)
-        .position(|bytes| bytes == b"planes ".as_slice())?;
+    let first = place_of(report, b"\n")?;
+    let planes = place_of(report, b"planes ")?;
     let order = report.get(first.saturating_add(1)..planes)?;
     Some((order, report.get(planes..)?))
 }
 
-// What `replay` answers to a script with the order of a report, and with the six hooks of `main`.
-fn replayed<R: Threads + Wait + AllocGlobal + Sync>(
-    rt: &R,
-    script: &[u8],
-    report: &[u8],
-) -> Result<(Status, Vec<u8>), AllocError> {
-    let mut after = Vec::from_slice(rt.alloc(), b"order\n")?;
-    if let Some((order, _)) = order_and_rest(report) {
-        after.extend_from_slice(order)?;
-    }
-    answer_with_six(rt, "replay", script, after.as_slice())
+// A line and what stands behind it.
+fn under(alloc: Global, line: &[u8], text: &[u8]) -> Result<Vec<u8>, AllocError> {
+    let mut lines = Vec::from_slice(alloc, line)?;
+    lines.extend_from_slice(text)?;
+    Ok(lines)
 }
 
-// What `audit` answers to a script and a report of it, with the six hooks of `main`.
-fn audited<R: Threads + Wait + AllocGlobal + Sync>(
+// `replay` of a script with the order of a report, and with the six hooks of `main`, gives that report.
+fn assert_replayed<R: Threads + Wait + Abort + AllocGlobal + Sync>(
     rt: &R,
     script: &[u8],
     report: &[u8],
-) -> Result<Status, AllocError> {
-    let mut after = Vec::from_slice(rt.alloc(), b"report\n")?;
-    after.extend_from_slice(report)?;
+) -> Result<(), AllocError> {
+    let order = match order_and_rest(report) {
+        Some((order, _)) => order,
+        None => b"",
+    };
+    let after = under(rt.alloc(), b"order\n", order)?;
+    let (status, again) = answer_with_six(rt, "replay", script, after.as_slice())?;
+    assert_eq!(rt; status, Status::Done);
+    assert_eq!(rt; again.as_slice(), report);
+    Ok(())
+}
+
+// `audit` of a script and a report of it, with the six hooks of `main`, gives this answer.
+fn assert_audited<R: Threads + Wait + Abort + AllocGlobal + Sync>(
+    rt: &R,
+    script: &[u8],
+    report: &[u8],
+    due: Status,
+) -> Result<(), AllocError> {
+    let after = under(rt.alloc(), b"report\n", report)?;
     let (status, text) = answer_with_six(rt, "audit", script, after.as_slice())?;
-    let said = text.as_slice() == b"same\n".as_slice();
-    Ok(if (status == Status::Done) == said {
-        status
-    } else {
-        Status::Usage
-    })
+    assert_eq!(rt; status, due);
+    assert_eq!(rt;
+        text.as_slice() == b"same\n".as_slice(),
+        due == Status::Done
+    );
+    Ok(())
 }
 
 // Where the first row of a report's planes begins.
 fn first_digit(report: &[u8]) -> usize {
-    let planes = report
-        .windows(8)
-        .position(|bytes| bytes == b"plane 0\n".as_slice());
-    planes.unwrap_or(0).saturating_add(8)
+    place_of(report, b"plane 0\n")
+        .unwrap_or(0)
+        .saturating_add(8)
 }
 
 // Runs a script on threads, and compares the report with that of its own order.
@@ -569,58 +600,58 @@ fn reports_of_runs_are_those_of_their_orders(rt: HostRuntime) -> Result<(), Fail
 
 // The lines of a text that say no more than that a call was done.
 fn plain_replies(text: &[u8]) -> usize {
-    text.split(|byte| *byte == b'\n')
-        .filter(|line| *line == b"ok".as_slice())
-        .count()
+    let mut count: usize = 0;
+    for line in text.split(|byte| *byte == b'\n') {
+        if line == b"ok".as_slice() {
+            count = count.saturating_add(1);
+        }
+    }
+    count
 }
 
 #[test]
 fn windows_of_three_tasks_run_in_some_order(rt: HostRuntime) -> Result<(), Fail> {
-    let (status, text) = answer_with_six(&rt, "run", REALISTIC, b"")?;
+    let (status, mut text) = answer_with_six(&rt, "run", REALISTIC, b"")?;
     assert_eq!(rt; status, Status::Done);
     // All 28 calls but `clip`, `which` and two `getmsg`.
     assert_eq!(rt; plain_replies(text.as_slice()), 24);
-    let (status, again) = replayed(&rt, REALISTIC, text.as_slice())?;
-    assert_eq!(rt; status, Status::Done);
-    assert_eq!(rt; again.as_slice(), text.as_slice());
-    assert_eq!(rt; audited(&rt, REALISTIC, text.as_slice())?, Status::Done);
+    assert_replayed(&rt, REALISTIC, text.as_slice())?;
+    assert_audited(&rt, REALISTIC, text.as_slice(), Status::Done)?;
     // The first hexadecimal digit of the planes is another one.
-    let (mut changed, digit) = (text, first_digit(again.as_slice()));
-    if let Some(byte) = changed.as_mut_slice().get_mut(digit) {
+    let digit = first_digit(text.as_slice());
+    if let Some(byte) = text.as_mut_slice().get_mut(digit) {
         *byte = if *byte == b'7' { b'8' } else { b'7' };
     }
-    let status = audited(&rt, REALISTIC, changed.as_slice())?;
-    assert_eq!(rt;
-        status,
-        Status::Differs {
-            place: digit as u64
-        }
-    );
+    let due = Status::Differs {
+        place: digit as u64,
+    };
+    assert_audited(&rt, REALISTIC, text.as_slice(), due)?;
     Ok(())
 }
 
+// A task that creates a layer and fills it.
+fn one_of_many(alloc: Global, task: u8) -> Result<String, AllocError> {
+    let last = task.saturating_add(15);
+    format!(in alloc;
+        "task t{task}\ncreate w{task} smart front {task} 0 {last} 1\napen w{task} {task}\nfill w{task} 0 0 15 1\nend\n"
+    )
+}
+
 // A script of 16 tasks, each of which creates a layer over the others' and fills it.
-fn many_tasks(alloc: Global) -> Result<Vec<u8>, AllocError> {
+fn many_tasks(alloc: Global) -> Result<String, AllocError> {
     let mut script = String::from_str(alloc, "screen 32 2 4\n")?;
-    for task in 0u32..16 {
-        let last = task + 15;
-        script.push_str(format!(in alloc;
-            "task t{task}\ncreate w{task} smart front {task} 0 {last} 1\n"
-        )?.as_str())?;
-        script.push_str(format!(in alloc;
-            "apen w{task} {task}\nfill w{task} 0 0 15 1\nend\n"
-        )?.as_str())?;
+    for task in 0..16 {
+        let lines = one_of_many(alloc, task)?;
+        script.push_str(lines.as_str())?;
     }
-    Ok(script.into_bytes())
+    Ok(script)
 }
 
 #[test]
 fn sixteen_tasks_run_in_some_order(rt: HostRuntime) -> Result<(), Fail> {
     let script = many_tasks(rt.alloc())?;
-    let (status, text) = answer_with_six(&rt, "run", script.as_slice(), b"")?;
+    let (status, text) = answer_with_six(&rt, "run", script.as_bytes(), b"")?;
     assert_eq!(rt; status, Status::Done);
-    let (status, again) = replayed(&rt, script.as_slice(), text.as_slice())?;
-    assert_eq!(rt; status, Status::Done);
-    assert_eq!(rt; again.as_slice(), text.as_slice());
+    assert_replayed(&rt, script.as_bytes(), text.as_slice())?;
     Ok(())
 }
