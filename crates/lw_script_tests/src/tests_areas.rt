@@ -3,6 +3,8 @@ use crate::tests_refused::refusal_of;
 use crate::tests_script::read_short;
 use lw_calls::Plan;
 use lw_grammar::{Form, Reason};
+use lw_script::ScriptStop;
+use std::alloc::Global;
 use std::test::Fail;
 
 // An area of 6,143 rows, each with another run.
@@ -38,6 +40,12 @@ fn counts_of(plan: &Plan) -> (usize, usize, usize) {
     )
 }
 
+// The same of a script.
+fn counts_read(alloc: Global, script: &[u8]) -> Result<(usize, usize, usize), ScriptStop> {
+    let input = read_short(alloc, script, 0, Form::Plain)?;
+    Ok(counts_of(&input.plan))
+}
+
 #[test]
 fn areas_are_read_as_fills(rt: HostRuntime) -> Result<(), Fail> {
     let alloc = rt.alloc();
@@ -45,8 +53,8 @@ fn areas_are_read_as_fills(rt: HostRuntime) -> Result<(), Fail> {
         let script = format!(in alloc;
             "layers 2\nscreen 16 4 1\npattern p aaaa 5555\ntask a\n{lines}end\n"
         )?;
-        let input = read_short(alloc, script.as_bytes(), 0, Form::Plain)?;
-        assert_eq!(rt; counts_of(&input.plan), *counts, "{lines}");
+        let found = counts_read(alloc, script.as_bytes())?;
+        assert_eq!(rt; found, *counts, "{lines}");
     }
     Ok(())
 }

@@ -34,6 +34,14 @@ static COUNTED: [(Lines, u32, &str, u32, Reason); 8] = [
     ),
 ];
 
+// A line with its number.
+fn line_of(alloc: Global, line: &str, number: u32) -> Result<String, AllocError> {
+    match line.split_once('@') {
+        Some((front, rest)) => format!(in alloc; "{front}{number}{rest}"),
+        None => String::from_str(alloc, line),
+    }
+}
+
 // So many lines between two texts.
 fn script_of(
     alloc: Global,
@@ -43,13 +51,8 @@ fn script_of(
 ) -> Result<String, AllocError> {
     let mut script = String::from_str(alloc, before)?;
     for number in 0..count {
-        match line.split_once('@') {
-            Some((front, rest)) => {
-                script.push_str(front)?;
-                script.push_str(format!(in alloc; "{number}{rest}")?.as_str())?;
-            }
-            None => script.push_str(line)?,
-        }
+        let numbered = line_of(alloc, line, number)?;
+        script.push_str(numbered.as_str())?;
     }
     script.push_str(after)?;
     Ok(script)

@@ -1,8 +1,9 @@
 //! Scripts with windows of two layers, which are read as the groups that they stand for.
 use crate::tests_refused::refusal_of;
 use crate::tests_script::read_short;
-use lw_calls::Pair;
+use lw_calls::{Pair, Plan};
 use lw_grammar::{Form, Reason};
+use std::process::Abort;
 use std::test::Fail;
 
 // Lines of a task on a screen of 100 by 60, the line of the whole script that is refused, and the reason.
@@ -104,18 +105,24 @@ fn lines_that_part_a_window_are_refused(rt: HostRuntime) -> Result<(), Fail> {
     Ok(())
 }
 
-#[test]
-fn windows_are_read_as_pairs_and_groups(rt: HostRuntime) -> Result<(), Fail> {
-    let alloc = rt.alloc();
-    let script = b"layers 2\nscreen 100 60 1\ntask a\ncreate w smart front 0 0 9 9\n\
+const WINDOWS: &[u8] = b"layers 2\nscreen 100 60 1\ntask a\ncreate w smart front 0 0 9 9\n\
         gopen g i smart front 0 0 20 20 \"\"\ngopen h j simple behind 5 5 30 30 ask r \"t\"\n\
         ginfront h i\ngbox g 1 2 30 40\nfill i -5 -5 30 30\nactivate g\ngclose h\nend\n";
-    let input = read_short(alloc, script, 0, Form::Plain)?;
-    let pairs = [Pair { outer: 1, inner: 2 }, Pair { outer: 3, inner: 4 }];
-    assert_eq!(rt; *input.plan.pairs(), *pairs.as_slice());
-    assert_eq!(rt; input.plan.slot_names().len(), 5);
+
+static PAIRS: [Pair; 2] = [Pair { outer: 1, inner: 2 }, Pair { outer: 3, inner: 4 }];
+
+fn assert_windows<R: Abort>(rt: &R, plan: &Plan) {
+    assert_eq!(rt; *plan.pairs(), *PAIRS.as_slice());
+    assert_eq!(rt; plan.slot_names().len(), 5);
+    assert_eq!(rt; plan.sizes().tasks, 1);
     // One, twice three, thrice two, and two calls; five groups.
-    assert_eq!(rt; input.plan.calls(0).len(), 15);
-    assert_eq!(rt; input.plan.groups(0).len(), 5);
+    assert_eq!(rt; plan.calls(0).len(), 15);
+    assert_eq!(rt; plan.groups(0).len(), 5);
+}
+
+#[test]
+fn windows_are_read_as_pairs_and_groups(rt: HostRuntime) -> Result<(), Fail> {
+    let input = read_short(rt.alloc(), WINDOWS, 0, Form::Plain)?;
+    assert_windows(&rt, &input.plan);
     Ok(())
 }

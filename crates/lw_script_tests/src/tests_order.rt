@@ -1,14 +1,30 @@
 use lw_report_order::{OrderStop, read_order};
 use std::alloc::{AllocError, Global};
+use std::process::Abort;
 use std::test::Fail;
 
-// What stands at the head of a report of so many calls: the numbers of its order, or the place up to which it begins one.
-fn head_of(alloc: Global, text: &[u8], count: u32) -> Result<Result<Vec<u32>, u64>, AllocError> {
+// The place up to which a report of so many calls begins an order, or nothing where an order stands at its head.
+fn stop_of(alloc: Global, text: &[u8], count: u32) -> Result<Option<u64>, AllocError> {
     match read_order(alloc, text, count) {
-        Ok(order) => Ok(Ok(Vec::from_slice(alloc, order.tasks())?)),
-        Err(OrderStop::Place(place)) => Ok(Err(place)),
+        Ok(_) => Ok(None),
+        Err(OrderStop::Place(place)) => Ok(Some(place)),
         Err(OrderStop::Memory) => Err(AllocError),
     }
+}
+
+// These are the numbers of the order at the head of a report of as many calls.
+fn assert_head<R: Abort + AllocGlobal>(
+    rt: &R,
+    text: &[u8],
+    count: u32,
+    due: &[u32],
+) -> Result<(), AllocError> {
+    match read_order(rt.alloc(), text, count) {
+        Ok(order) => assert_eq!(rt; order.tasks(), due),
+        Err(OrderStop::Place(place)) => assert!(rt; false, "stops at {place}"),
+        Err(OrderStop::Memory) => return Err(AllocError),
+    }
+    Ok(())
 }
 
 // Texts that begin no order of so many calls, and the place at which each stops.
@@ -36,35 +52,36 @@ static STOPPED: [(u32, &str, u64); 17] = [
 
 #[test]
 fn a_report_that_begins_no_order_stops_at_a_place(rt: HostRuntime) -> Result<(), Fail> {
-    let alloc = rt.alloc();
     for (count, text, place) in STOPPED.iter() {
-        let head = head_of(alloc, text.as_bytes(), *count)?;
-        assert_eq!(rt; head, Err(*place), "{text}");
+        let stop = stop_of(rt.alloc(), text.as_bytes(), *count)?;
+        assert_eq!(rt; stop, Some(*place), "{text}");
     }
     Ok(())
 }
 
 #[test]
 fn an_order_is_read_from_the_head_of_a_report(rt: HostRuntime) -> Result<(), Fail> {
-    let alloc = rt.alloc();
-    let none = head_of(alloc, b"order 0\nplanes", 0)?;
-    assert_eq!(rt; none, Ok(Vec::new(alloc)));
-    let three = head_of(alloc, b"order 3\n15 1 9\n10", 3)?;
-    assert_eq!(rt; three, Ok(vec![in alloc; 15, 1, 9]?));
-    // The 65th number stands on a line of its own.
+    assert_head(&rt, b"order 0\nplanes", 0, &[])?;
+    assert_head(&rt, b"order 3\n15 1 9\n10", 3, &[15, 1, 9])?;
+    Ok(())
+}
+
+// The head of a report of 65 calls, without the last two numbers and what stands between and behind them.
+fn sevens(alloc: Global, end: &[u8]) -> Result<Vec<u8>, AllocError> {
     let mut text = Vec::from_slice(alloc, b"order 65\n")?;
     for _number in 0..63 {
         text.extend_from_slice(b"7 ")?;
     }
-    let mut spaced = Vec::from_slice(alloc, text.as_slice())?;
-    text.extend_from_slice(b"7\n7\n")?;
-    spaced.extend_from_slice(b"7 7\n")?;
-    let many = head_of(alloc, text.as_slice(), 65)?;
-    let Ok(numbers) = many else {
-        return Err(Fail::from(AllocError));
-    };
-    assert_eq!(rt; numbers.len(), 65);
-    assert!(rt; numbers.iter().all(|number| *number == 7));
-    assert_eq!(rt; head_of(alloc, spaced.as_slice(), 65)?, Err(136));
+    text.extend_from_slice(end)?;
+    Ok(text)
+}
+
+// The 65th number stands on a line of its own.
+#[test]
+fn an_order_has_64_numbers_a_line(rt: HostRuntime) -> Result<(), Fail> {
+    let text = sevens(rt.alloc(), b"7\n7\n")?;
+    assert_head(&rt, text.as_slice(), 65, &[7; 65])?;
+    let spaced = sevens(rt.alloc(), b"7 7\n")?;
+    assert_eq!(rt; stop_of(rt.alloc(), spaced.as_slice(), 65)?, Some(136));
     Ok(())
 }

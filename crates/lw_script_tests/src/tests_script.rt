@@ -1,7 +1,8 @@
-use lw_calls::Text;
+use lw_calls::{Plan, Text};
 use lw_grammar::Form;
 use lw_script::{Input, ScriptStop, read};
-use std::alloc::{AllocError, Global};
+use std::alloc::Global;
+use std::process::Abort;
 use std::test::Fail;
 
 /// `read`, for scripts that are short enough for it.
@@ -57,33 +58,43 @@ order
 15 1
 ";
 
-// Names with a space after each.
-fn joined(alloc: Global, names: &[Text]) -> Result<Vec<u8>, AllocError> {
-    let mut bytes = Vec::new(alloc);
-    for name in names {
-        bytes.extend_from_slice(name.bytes())?;
-        bytes.push(b' ')?;
+// The names have to be these.
+fn assert_names<R: Abort>(rt: &R, names: &[Text], due: &[&str]) {
+    assert_eq!(rt; names.len(), due.len());
+    for (name, text) in names.iter().zip(due) {
+        assert_eq!(rt; name.bytes(), text.as_bytes());
     }
-    Ok(bytes)
+}
+
+// What a plan has by number, its names aside.
+type Numbers = ((u32, u32, u32), (u32, u32, u32), (u32, u32, u32));
+
+// Version and hooks; the screen's width, height and planes; and how many slots, tasks and bitmaps there are.
+fn numbers_of(plan: &Plan) -> Numbers {
+    let sizes = plan.sizes();
+    (
+        (sizes.version, plan.version(), sizes.hooks),
+        (sizes.width, sizes.height, sizes.depth),
+        (sizes.slots, sizes.tasks, sizes.bitmaps),
+    )
+}
+
+fn assert_whole<R: Abort>(rt: &R, input: &Input) {
+    assert_eq!(rt;
+        numbers_of(&input.plan),
+        ((1, 1, 3), (640, 256, 2), (3, 2, 2))
+    );
+    assert_names(rt, input.plan.slot_names(), &["log", "clk", "Log"]);
+    assert_names(rt, input.plan.task_names(), &["clock", "edit"]);
+    assert_names(rt, input.plan.bitmap_names(), &["dot", "two"]);
+    assert_eq!(rt; input.order.tasks(), [0, 1, 0, 15, 1].as_slice());
+    assert_eq!(rt; input.rest, WHOLE.len());
 }
 
 #[test]
 fn a_script_gives_its_sizes_names_and_order(rt: HostRuntime) -> Result<(), Fail> {
-    let alloc = rt.alloc();
-    let input = read_short(alloc, WHOLE.as_bytes(), 3, Form::Ordered)?;
-    let plan = &input.plan;
-    let sizes = plan.sizes();
-    assert_eq!(rt; (sizes.version, plan.version(), sizes.hooks), (1, 1, 3));
-    assert_eq!(rt; (sizes.width, sizes.height, sizes.depth), (640, 256, 2));
-    assert_eq!(rt; (sizes.slots, sizes.tasks, sizes.bitmaps), (3, 2, 2));
-    let slots = joined(alloc, plan.slot_names())?;
-    assert_eq!(rt; slots.as_slice(), b"log clk Log ".as_slice());
-    let tasks = joined(alloc, plan.task_names())?;
-    assert_eq!(rt; tasks.as_slice(), b"clock edit ".as_slice());
-    let bitmaps = joined(alloc, plan.bitmap_names())?;
-    assert_eq!(rt; bitmaps.as_slice(), b"dot two ".as_slice());
-    assert_eq!(rt; input.order.tasks(), [0, 1, 0, 15, 1].as_slice());
-    assert_eq!(rt; input.rest, WHOLE.len());
+    let input = read_short(rt.alloc(), WHOLE.as_bytes(), 3, Form::Ordered)?;
+    assert_whole(&rt, &input);
     Ok(())
 }
 
@@ -91,9 +102,10 @@ fn a_script_gives_its_sizes_names_and_order(rt: HostRuntime) -> Result<(), Fail>
 fn a_first_line_gives_version_2(rt: HostRuntime) -> Result<(), Fail> {
     let script = "# note\nlayers 2\nscreen 2048 1025 1\ntask a\nhook w 1\nend\n";
     let input = read_short(rt.alloc(), script.as_bytes(), 2, Form::Plain)?;
-    let sizes = input.plan.sizes();
-    assert_eq!(rt; (sizes.version, sizes.width, sizes.height), (2, 2048, 1025));
-    assert_eq!(rt; (sizes.slots, sizes.hooks), (1, 2));
+    assert_eq!(rt;
+        numbers_of(&input.plan),
+        ((2, 2, 2), (2048, 1025, 1), (1, 1, 0))
+    );
     Ok(())
 }
 
@@ -109,14 +121,21 @@ static RESTS: [(Form, &str, usize); 4] = [
     ),
 ];
 
+// Where what stands behind an input's script begins, and how many numbers of an order and names of layers it has.
+fn rest_of(alloc: Global, script: &[u8], form: Form) -> Result<(usize, usize, usize), ScriptStop> {
+    let input = read_short(alloc, script, 0, form)?;
+    Ok((
+        input.rest,
+        input.order.tasks().len(),
+        input.plan.slot_names().len(),
+    ))
+}
+
 #[test]
 fn a_report_begins_behind_its_line(rt: HostRuntime) -> Result<(), Fail> {
-    let alloc = rt.alloc();
     for (form, script, rest) in RESTS.iter() {
-        let input = read_short(alloc, script.as_bytes(), 0, *form)?;
-        assert_eq!(rt; input.rest, *rest, "{script}");
-        assert_eq!(rt; input.order.tasks().len(), 0, "{script}");
-        assert_eq!(rt; input.plan.slot_names().len(), 0, "{script}");
+        let found = rest_of(rt.alloc(), script.as_bytes(), *form)?;
+        assert_eq!(rt; found, (*rest, 0, 0), "{script}");
     }
     Ok(())
 }
