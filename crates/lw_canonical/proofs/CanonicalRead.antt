@@ -5,12 +5,13 @@ use Rattle.lw_calls.specs.Plan.{Plan}
 use Rattle.lw_grammar.specs.Lines.{lines}
 use Rattle.lw_grammar.specs.Statements.{Statement, Line}
 use Rattle.lw_grammar.specs.Told.{stands_for, told, plan_of}
-use Rattle.lw_grammar.specs.Script.{Setting, is_skipped, is_nothing_due, Reached, at_the_top, with_line, may_end, line_read, lines_read, input_from, SpellsInput, added}
+use Rattle.lw_grammar.specs.Script.{Setting, is_skipped, is_nothing_due, may_end, line_read, input_from, SpellsInput, added}
+use Rattle.lw_grammar.specs.Reading.{Reached, at_the_top, with_line, lines_read, outcome_of}
 use Rattle.lw_grammar.specs.GoodLines.{AreGoodLines}
 use Rattle.lw_calls.specs.Written.{line_of}
 use Rattle.lw_canonical.specs.Spelling.{written}
 use Rattle.lw_canonical.specs.Canonical.{lines_of_plan, canonical_text, canonical_input, CanonicalTextsReadBack}
-use Rattle.lw_grammar.proofs.ScriptOutcome.{lines_keep, of_lines}
+use Rattle.lw_grammar.proofs.ScriptOutcome.{lines_keep, of_lines, outcome_spells}
 use Rattle.lw_canonical.proofs.Rearranged.{arranged, arranged_lines, stated, alone, AreLinesWritten, AreLinesSpelled, is_passed, base_of}
 use Rattle.lw_canonical.proofs.OneSpelling.{no_feed, HasNoFeed, HaveNoFeed, lines_of_text}
 use Rattle.lw_canonical.proofs.LinesWritten.{AreGoodAndWritten, written_more, first_written}
@@ -81,7 +82,8 @@ spells : (t : Setting) (ls : List Line) → AreLinesSpelled t ls → may_end t.f
 spells t ls h w =
     let text = text_of (reverse ls) in
     let place : min (length text) (length text) ≡ length text = omega (arith, clamps) in
-    ap (λ r. r >>= (λ p. Ok (input_from t (told p.statements) (min (length text) p.place)))) (answered t ls h w) ∙ ap (λ n. Ok (input_from t (told (stated ls)) n)) place
+    let read : outcome_of t text ≡ Ok (input_from t (told (stated ls)) (min (length text) (length text))) = ap (λ r. r >>= (λ p. Ok (input_from t (told p.statements) (min (length text) p.place)))) (answered t ls h w) in
+    outcome_spells t text (input_from t (told (stated ls)) (length text)) (read ∙ ap (λ n. Ok (input_from t (told (stated ls)) n)) place)
 
 -- the text of a plan whose lines are these
 text_is : (p : Plan) (ls : List Line) → lines_of_plan p ≡ reverse ls → text_of (reverse ls) ≡ canonical_text p
@@ -108,7 +110,7 @@ of_good s ls good written_so whole plan_is =
     let plan : plan_of s.hooks (told (stated new)) ≡ p = ap (λ (a : List Statement). plan_of s.hooks (told a)) same ∙ tasks_plan s above base good whole is in
     let order : (told (stated new)).order ≡ [] = ap (λ (a : List Statement). (told a).order) same ∙ tasks_order s above base good whole is (base_order above) in
     let P : List ℕ → Type 0 = λ bytes. SpellsInput (alone s) bytes (input_from (alone s) (told (stated new)) (length bytes)) in
-    subst (SpellsInput (alone s) (canonical_text p)) (without_order (alone s) (stated new) p (length (canonical_text p)) plan order) (subst P text spelt)
+    subst (λ i. SpellsInput (alone s) (canonical_text p) i) (without_order (alone s) (stated new) p (length (canonical_text p)) plan order) (subst P text spelt)
 
 -- the lines of the plan that good lines tell are these lines in the order of the canonical text
 abbrev PlansHaveLines : Type 0

@@ -13,7 +13,8 @@ use Rattle.lw_gzz.specs.Together.{may_part, HasPairBox, puts_before}
 use Rattle.lw_gzz.specs.Apart.{StandsForWord, IsInPairGroup, opens_pair, IsOpenedOnce, IsApart}
 use Rattle.lw_grammar.specs.Statements.{Statement, EndLine, Line, StatementLine}
 use Rattle.lw_grammar.specs.Told.{NamedPair, told, plan_of, pair_among}
-use Rattle.lw_grammar.specs.Script.{Setting, at_the_top, may_end}
+use Rattle.lw_grammar.specs.Script.{Setting, may_end}
+use Rattle.lw_grammar.specs.Reading.{at_the_top}
 use Rattle.lw_grammar.specs.GoodLines.{AreGoodLines}
 use Rattle.lw_grammar.specs.Lines.{lines}
 use Rattle.lw_grammar.proofs.ScriptNames.{same_name, equal_names}

@@ -9,7 +9,9 @@ use Rattle.lw_grammar.specs.Demands.{◌>>=◌, demand}
 use Rattle.lw_grammar.specs.Lines.{lines}
 use Rattle.lw_grammar.specs.Statements.{Statement, Line, StatementLine}
 use Rattle.lw_grammar.specs.Told.{Told, nothing_told, told_with, told, stands_for, plan_of}
-use Rattle.lw_grammar.specs.Script.{Setting, reading_with, is_skipped, are_tasks_due, is_nothing_due, line_read, Reached, at_the_top, with_line, at_number, end_read, added, lines_read, input_from, SpellsInput}
+use Rattle.lw_grammar.specs.Script.{Setting, reading_with, is_skipped, are_tasks_due, is_nothing_due, line_read, added, input_from, SpellsInput}
+use Rattle.lw_grammar.specs.Reading.{Reached, at_the_top, with_line, at_number, end_read, lines_read}
+use Rattle.lw_grammar.proofs.ScriptOutcome.{outcome_spells}
 use Rattle.lw_canonical.specs.Spelling.{spelled, written}
 use Rattle.lw_canonical.specs.Canonical.{canonical_text, canonical_input}
 use Rattle.lw_canonical.proofs.OneSpelling.{HasNoFeed, HaveNoFeed, no_feed, lines_of_text}
@@ -60,6 +62,6 @@ plan_reads_back t p r whole is =
     let ended : are_tasks_due (told q.statements).section ≡ true = ap (λ (k : Told). are_tasks_due k.section) r.tells ∙ whole in
     let last : lines_read alone q [] ≡ Ok q = λ i. at_number q.number (demand (ended i) Missing) >>= (λ _. Ok q) in
     let read : lines_read alone at_the_top (lines bytes) ≡ Ok q = ap (lines_read alone at_the_top) ls ∙ (r.read [] ∙ last) in
-    let spelt : SpellsInput alone bytes (input_from alone (told q.statements) (min (length bytes) q.place)) = ap (λ o. o >>= (λ m. Ok (input_from alone (told m.statements) (min (length bytes) m.place)))) read in
+    let spelt : SpellsInput alone bytes (input_from alone (told q.statements) (min (length bytes) q.place)) = outcome_spells alone bytes _ (ap (λ o. o >>= (λ m. Ok (input_from alone (told m.statements) (min (length bytes) m.place)))) read) in
     let same : plan_of 0 (told q.statements) ≡ p = ap (plan_of 0) r.tells ∙ is in
     subst (λ k. SpellsInput alone (canonical_text k) (canonical_input k)) same (canonical_texts_read_back alone bytes (input_from alone (told q.statements) (min (length bytes) q.place)) spelt)

@@ -16,7 +16,9 @@ use Rattle.lw_grammar.specs.Demands.{◌>>=◌, demand}
 use Rattle.lw_grammar.specs.Lines.{lines}
 use Rattle.lw_grammar.specs.Tokens.{Token, NameToken, NumberToken, token_of}
 use Rattle.lw_grammar.specs.Told.{place_among}
-use Rattle.lw_grammar.specs.Script.{ScriptInput, reading_with, outcome_of, is_skipped, words_read, after_verb}
+use Rattle.lw_grammar.specs.Script.{ScriptInput, reading_with, is_skipped, words_read, after_verb}
+use Rattle.lw_grammar.specs.Reading.{outcome_of}
+use Rattle.lw_grammar.proofs.ScriptOutcome.{outcome_spells}
 use Rattle.lw_grammar.proofs.ScriptRunnable.{spelled_runnable}
 use Rattle.lw_screens.specs.Display.{acted_on}
 use Rattle.lw_screens.specs.declared.act.Act.{Act}
@@ -257,7 +259,7 @@ scene_keeps n s t line h = go (bytes_eq line (codes "endscene"))
     at_order script false plan e = tt
 
     at_script : (r : Result ScriptInput (ℕ × Reason)) → outcome_of (reading_with 0 Ordered) bytes ≡ r → IfOk ((counted_from s.above r >>= in_legal_order n) >>= (λ script. Ok (told_with_scene s t script))) IsSoundTold
-    at_script (Ok script) e = at_order script (is_legal script.plan script.order) (spelled_runnable (reading_with 0 Ordered) bytes script e).plan refl
+    at_script (Ok script) e = at_order script (is_legal script.plan script.order) (spelled_runnable (reading_with 0 Ordered) bytes script (outcome_spells (reading_with 0 Ordered) bytes script e)).plan refl
     at_script (Err x) e = tt
 
     go : (b : Bool) → IfOk (cond b (script_ended s.above n bytes >>= (λ script. Ok (told_with_scene s t script))) (Ok (record t { part = ScriptIsDue (record s { script = s.script ++ line ∷ [] }) }))) IsSoundTold

@@ -11,7 +11,8 @@ use Rattle.lw_grammar.specs.Lines.{lines}
 use Rattle.lw_grammar.specs.Demands.{◌>>=◌, demand}
 use Rattle.lw_grammar.specs.Tokens.{token_of}
 use Rattle.lw_grammar.specs.Told.{place_among}
-use Rattle.lw_grammar.specs.Script.{ScriptInput, reading_with, outcome_of, is_skipped, words_read, after_verb}
+use Rattle.lw_grammar.specs.Script.{ScriptInput, reading_with, is_skipped, words_read, after_verb}
+use Rattle.lw_grammar.specs.Reading.{outcome_of}
 use Rattle.lw_display.specs.declared.reason.ShowReason.{ShowReason}
 use Rattle.lw_display.specs.declared.reason.ShowReason.TheVariants.{Line, BadOrder}
 use Rattle.lw_display.specs.declared.verb.ShowVerb.{ShowVerb}

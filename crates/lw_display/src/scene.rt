@@ -2,7 +2,8 @@
 
 ghost use Rattle.std.specs.Prelude.{◌≡◌, ℕ, ◌+◌, ◌<◌, ◌≤◌, List, [], length};
 ghost use Rattle.lw_grammar.specs.Lines.{lines};
-ghost use Rattle.lw_grammar.specs.Script.{reading_with, outcome_of};
+ghost use Rattle.lw_grammar.specs.Script.{reading_with};
+ghost use Rattle.lw_grammar.specs.Reading.{outcome_of};
 ghost use Rattle.lw_grammar.specs.declared.form.Form.TheVariants.{Ordered};
 ghost use Rattle.lw_script.specs.Answers.{input_meaning};
 ghost use Rattle.lw_display.specs.ShowRule.{counted_from, in_legal_order, script_ended, script_unended};

@@ -11,7 +11,8 @@ use Rattle.lw_grammar.specs.Lines.{lines}
 use Rattle.lw_grammar.specs.Tokens.{space, quote, ends_text, on_found, tokens_at, tokens, Token, NameToken, NumberToken, TextToken, OddToken, token_of}
 use Rattle.lw_grammar.specs.Statements.{FillAct, Statement, NumbersLine, CallLine, LockLine, UnlockLine, Line, StatementLine, AreaLine, all_numbers, numbers_limit, GzzAct, OpenGzz, BoxGzz, FrontGzz, BehindGzz, InFrontGzz, CloseGzz, GzzLine}
 use Rattle.lw_grammar.specs.Told.{OpenGroup, Told, area_words, fill_lines, area_lines, stands_for, told_with, told, told_all, NamedPair, gzz_lines}
-use Rattle.lw_grammar.specs.Script.{Setting, is_skipped, are_numbers_due, is_nothing_due, is_printable, line_limit, words_read, stated, line_made, line_tested, line_of_words, line_read, added, statements_with, Reached, at_the_top, with_line, at_number, end_read, lines_read, ScriptInput, SpellsInput}
+use Rattle.lw_grammar.specs.Script.{Setting, is_skipped, are_numbers_due, is_nothing_due, is_printable, line_limit, words_read, stated, line_made, line_tested, line_of_words, line_read, added, statements_with, ScriptInput, SpellsInput}
+use Rattle.lw_grammar.specs.Reading.{Reached, at_the_top, with_line, at_number, end_read, lines_read}
 use Rattle.lw_grammar.specs.GoodLines.{IsStatementHere}
 use Rattle.lw_grammar.proofs.AreaLines.{told_added, told_parts}
 use Rattle.lw_grammar.proofs.ScriptOutcome.{IsRead, line_good, end_same, of_lines}

@@ -9,7 +9,8 @@ use Rattle.lw_grammar.specs.Demands.{◌>>=◌, demand}
 use Rattle.lw_grammar.specs.Lines.{lines}
 use Rattle.lw_grammar.specs.Statements.{Statement, is_line_in_range, ScreenLine, BitmapLine, RowLine, TaskLine, EndLine, OrderLine, ReportLine, Line, StatementLine, AreaLine, GzzLine}
 use Rattle.lw_grammar.specs.Told.{Told, stands_for, told}
-use Rattle.lw_grammar.specs.Script.{Setting, is_skipped, are_assets_due, are_tasks_due, is_nothing_due, is_audited, lacks_name, gives_again, words_read, parts_pair, line_made, tested_with, statement_tested, line_tested, line_read, added, statements_with, Reached, at_the_top, with_line, at_number, may_end, end_read, lines_read, ScriptInput, input_from, outcome_of, SpellsInput, AreGoodBelow, IsBadBelow, IsFirstBadIn}
+use Rattle.lw_grammar.specs.Script.{Setting, is_skipped, are_assets_due, are_tasks_due, is_nothing_due, is_audited, lacks_name, gives_again, words_read, parts_pair, line_made, tested_with, statement_tested, line_tested, line_read, added, statements_with, may_end, ScriptInput, input_from, length_of_lines, SpellsInput, AreGoodBelow, AreNoLinesBelow, IsBadBelow, IsFirstBadIn}
+use Rattle.lw_grammar.specs.Reading.{Reached, at_the_top, with_line, at_number, end_read, lines_read, outcome_of}
 use Rattle.lw_grammar.specs.Laws.{IsDecidedIn}
 use Rattle.lw_grammar.specs.GoodLines.{AreGoodLines}
 use Rattle.lw_grammar.proofs.ScriptStatements.{IsLineHere, line_here}
@@ -141,8 +142,8 @@ pub record IsOfLines (s : Setting) (bytes : List ℕ) (input : ScriptInput) : Ty
   pub read : AreWhole s reached.statements
   pub is : input ≡ input_from s (told reached.statements) (min (length bytes) reached.place)
 
-pub of_lines : (s : Setting) (bytes : List ℕ) (input : ScriptInput) → SpellsInput s bytes input → IsOfLines s bytes input
-of_lines s bytes input h = go (lines_read s at_the_top (lines bytes)) refl h
+of_outcome : (s : Setting) (bytes : List ℕ) (input : ScriptInput) → outcome_of s bytes ≡ Ok input → IsOfLines s bytes input
+of_outcome s bytes input h = go (lines_read s at_the_top (lines bytes)) refl h
   where
     go : (r : Result Reached (ℕ × Reason)) → lines_read s at_the_top (lines bytes) ≡ r → (r >>= (λ p. Ok (input_from s (told p.statements) (min (length bytes) p.place)))) ≡ Ok input → IsOfLines s bytes input
     go (Ok p) e d =
@@ -153,6 +154,96 @@ of_lines s bytes input h = go (lines_read s at_the_top (lines bytes)) refl h
           is = let same : Ok (input_from s (told p.statements) (min (length bytes) p.place)) ≡ Ok input = d in cc;
         }
     go (Err r) e d = absurd (cc)
+
+-- a line that is read, where one is due, is followed by the others
+pub line_step : (s : Setting) (p : Reached) (line : List ℕ) (ls : List (List ℕ)) (statements : List Statement) → is_nothing_due (told p.statements).section ≡ false → statements_with s p.statements line ≡ Ok statements → lines_read s p (line ∷ ls) ≡ lines_read s (with_line p line statements) ls
+line_step s p line ls statements due read = rw (due, read) refl
+
+-- Further lines that are read up to where reading ends, below lines that were read up to p.
+abbrev ReadAmong : Setting → Reached → Reached → List (List ℕ) → Type 0
+ReadAmong s p q ls =
+    (above : List (List ℕ)) × (below : List (List ℕ))
+    × (ls ≡ above ++ below) × (q.place ≡ p.place + length_of_lines above) × AreGoodBelow s p.statements above q.statements × AreNoLinesBelow q.statements below × (may_end s.form (told q.statements).section ≡ true)
+
+reads_among : (s : Setting) (p q : Reached) (ls : List (List ℕ)) → lines_read s p ls ≡ Ok q → ReadAmong s p q ls
+reads_among s p q [] e =
+    let same = end_same s p q e in
+    let far : p.place ≡ p.place + 0 = omega arith in
+    subst (λ (r : Reached). ReadAmong s p r []) same.0 ([], [], refl, far, refl, tt, same.1)
+reads_among s p q (line ∷ ls) e =
+    go (is_nothing_due (told p.statements).section) refl (λ more d. reads_among s (with_line p line more) q ls d) e
+  where
+    Next : Type 0
+    Next = (more : List Statement) → lines_read s (with_line p line more) ls ≡ Ok q → ReadAmong s (with_line p line more) q ls
+
+    at_statements : (r : Result (List Statement) Reason) → statements_with s p.statements line ≡ r → is_nothing_due (told p.statements).section ≡ false → Next → (at_number p.number r >>= (λ more. lines_read s (with_line p line more) ls)) ≡ Ok q → ReadAmong s p q (line ∷ ls)
+    at_statements (Ok more) k due next d =
+        let b = next more d in
+        let far : q.place ≡ (p.place + (length line + 1)) + length_of_lines b.0 = b.3 in
+        let same : q.place ≡ p.place + ((length line + 1) + length_of_lines b.0) = omega (arith, far) in
+        (line ∷ b.0, b.1, ap (λ l. line ∷ l) b.2, same, (due, more, k, b.4), b.5, b.6)
+    at_statements (Err r) k due next d = absurd (cc)
+
+    go : (b : Bool) → is_nothing_due (told p.statements).section ≡ b → Next → cond b (end_read s p) (at_number p.number (statements_with s p.statements line) >>= (λ more. lines_read s (with_line p line more) ls)) ≡ Ok q → ReadAmong s p q (line ∷ ls)
+    go true due next d =
+        let same = end_same s p q d in
+        let far : p.place ≡ p.place + 0 = omega arith in
+        subst (λ (r : Reached). ReadAmong s p r (line ∷ ls)) same.0 ([], line ∷ ls, refl, far, refl, due, same.1)
+    go false due next d = at_statements (statements_with s p.statements line) refl due next d
+
+-- reading ends where no further line of the script stands, and the input may end
+ends_read : (s : Setting) (p : Reached) (below : List (List ℕ)) → AreNoLinesBelow p.statements below → may_end s.form (told p.statements).section ≡ true → lines_read s p below ≡ Ok p
+ends_read s p [] h e = rw e refl
+ends_read s p (line ∷ ls) h e = rw (h, e) refl
+
+-- How far good lines are read.
+abbrev IsReadTo : Setting → Reached → List (List ℕ) → List (List ℕ) → List Statement → Reached → Type 0
+IsReadTo s p above below statements q =
+    (lines_read s p (above ++ below) ≡ Ok q) × (q.statements ≡ statements) × (q.place ≡ p.place + length_of_lines above)
+
+reads_below : (s : Setting) (p : Reached) (above below : List (List ℕ)) (statements : List Statement) → AreGoodBelow s p.statements above statements → AreNoLinesBelow statements below → may_end s.form (told statements).section ≡ true → (q : Reached) × IsReadTo s p above below statements q
+reads_below s p [] below statements r h e =
+    let far : p.place ≡ p.place + 0 = omega arith in
+    let ended : may_end s.form (told p.statements).section ≡ true = ap (λ (a : List Statement). may_end s.form (told a).section) r ∙ e in
+    (p, (ends_read s p below (subst (λ a. AreNoLinesBelow a below) (sym r) h) ended, r, far))
+reads_below s p (line ∷ above) below statements r h e =
+    let rest = reads_below s (with_line p line r.1) above below statements r.3 h e in
+    let far : rest.0.place ≡ (p.place + (length line + 1)) + length_of_lines above = rest.1.2 in
+    let same : rest.0.place ≡ p.place + ((length line + 1) + length_of_lines above) = omega (arith, far) in
+    (rest.0, (line_step s p line (above ++ below) r.1 r.0 r.2 ∙ rest.1.0, rest.1.1, same))
+
+-- the input that reading gives is spelled
+pub outcome_spells : (s : Setting) (bytes : List ℕ) (input : ScriptInput) → outcome_of s bytes ≡ Ok input → SpellsInput s bytes input
+outcome_spells s bytes input h =
+    let l = of_outcome s bytes input h in
+    let b = reads_among s at_the_top l.reached (lines bytes) l.lines_are in
+    let far : l.reached.place ≡ 0 + length_of_lines b.0 = b.3 in
+    let place : l.reached.place ≡ length_of_lines b.0 = omega (arith, far) in
+    record {
+      above = b.0;
+      below = b.1;
+      statements = l.reached.statements;
+      lines_are = b.2;
+      read = b.4;
+      others = b.5;
+      ended = b.6;
+      gives = l.is ∙ ap (λ n. input_from s (told l.reached.statements) (min (length bytes) n)) place;
+    }
+
+-- and an input that is spelled is given
+pub spells_outcome : (s : Setting) (bytes : List ℕ) (input : ScriptInput) → SpellsInput s bytes input → outcome_of s bytes ≡ Ok input
+spells_outcome s bytes input k =
+    let r = reads_below s at_the_top k.above k.below k.statements k.read k.others k.ended in
+    let read : lines_read s at_the_top (lines bytes) ≡ Ok r.0 = ap (lines_read s at_the_top) k.lines_are ∙ r.1.0 in
+    let far : r.0.place ≡ 0 + length_of_lines k.above = r.1.2 in
+    let place : r.0.place ≡ length_of_lines k.above = omega (arith, far) in
+    ap (λ o. o >>= (λ p. Ok (input_from s (told p.statements) (min (length bytes) p.place)))) read
+    ∙ ap (λ (a : List Statement). Ok (input_from s (told a) (min (length bytes) r.0.place))) r.1.1
+    ∙ ap (λ n. Ok (input_from s (told k.statements) (min (length bytes) n))) place
+    ∙ ap (λ i. Ok i) (sym k.gives)
+
+pub of_lines : (s : Setting) (bytes : List ℕ) (input : ScriptInput) → SpellsInput s bytes input → IsOfLines s bytes input
+of_lines s bytes input k = of_outcome s bytes input (spells_outcome s bytes input k)
 
 -- Nothing is due below a line `report` alone, and there an input may end.
 report_ends : (s : Setting) (above : List Statement) → AreGoodLines s above → is_nothing_due (told above).section ≡ true → may_end s.form (told above).section ≡ true
@@ -239,10 +330,6 @@ stops_at s ls n reason e =
     let b = stops_among s at_the_top ls n reason tt e in
     record { above = b.0; below = b.1; statements = b.2; lines_are = b.3; number = b.4; read = b.5; bad = b.6 }
 
--- a line that is read, where one is due, is followed by the others
-pub line_step : (s : Setting) (p : Reached) (line : List ℕ) (ls : List (List ℕ)) (statements : List Statement) → is_nothing_due (told p.statements).section ≡ false → statements_with s p.statements line ≡ Ok statements → lines_read s p (line ∷ ls) ≡ lines_read s (with_line p line statements) ls
-line_step s p line ls statements due read = rw (due, read) refl
-
 -- at a bad line reading stops
 bad_stops : (s : Setting) (p : Reached) (below : List (List ℕ)) (reason : Reason) → IsBadBelow s p.statements below reason → lines_read s p below ≡ Err (p.number, reason)
 bad_stops s p [] reason b = rw (b.0, b.1) refl
@@ -269,7 +356,7 @@ pub reads_decide : (s : Setting) (bytes : List ℕ) → MatchResult (lines_read 
 reads_decide s bytes = go (lines_read s at_the_top (lines bytes)) refl
   where
     go : (r : Result Reached (ℕ × Reason)) → lines_read s at_the_top (lines bytes) ≡ r → MatchResult r (λ p. SpellsInput s bytes (input_from s (told p.statements) (min (length bytes) p.place))) (λ e. IsFirstBadIn s (lines bytes) e.0 e.1)
-    go (Ok p) e = ap (λ r. r >>= (λ q. Ok (input_from s (told q.statements) (min (length bytes) q.place)))) e
+    go (Ok p) e = outcome_spells s bytes _ (ap (λ r. r >>= (λ q. Ok (input_from s (told q.statements) (min (length bytes) q.place)))) e)
     go (Err r) e = stops_at s (lines bytes) r.0 r.1 e
 
 -- a refusal is that of the first bad line
@@ -288,7 +375,7 @@ outcome_refused s bytes n r b =
 -- no bytes have a first bad line and spell an input
 pub bad_or_spelled : (s : Setting) (bytes : List ℕ) (n : ℕ) (r : Reason) (p : ScriptInput) → IsFirstBadIn s (lines bytes) n r → SpellsInput s bytes p → ⊥
 bad_or_spelled s bytes n r p b k =
-    no_error p (n, r) (sym k ∙ outcome_refused s bytes n r b)
+    no_error p (n, r) (sym (spells_outcome s bytes p k) ∙ outcome_refused s bytes n r b)
 
 -- the first bad line is one, with one reason
 pub one_bad_line : (s : Setting) (ls : List (List ℕ)) (m n : ℕ) (r q : Reason) → IsFirstBadIn s ls m r → IsFirstBadIn s ls n q → (m ≡ n) × (r ≡ q)
@@ -299,7 +386,7 @@ one_bad_line s ls m n r q a b =
 
 -- bytes spell one input
 pub one_spelled : (s : Setting) (bytes : List ℕ) (p q : ScriptInput) → SpellsInput s bytes p → SpellsInput s bytes q → p ≡ q
-one_spelled s bytes p q a b = let both : Ok p ≡ Ok q = sym a ∙ b in cc
+one_spelled s bytes p q a b = let both : Ok p ≡ Ok q = sym (spells_outcome s bytes p a) ∙ spells_outcome s bytes q b in cc
 
 -- bytes either have a first bad line, which is one, or spell an input, which is one
 pub input_decided : (s : Setting) (bytes : List ℕ) → IsDecidedIn s bytes

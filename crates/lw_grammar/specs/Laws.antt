@@ -1,9 +1,18 @@
--- Laws of the grammar: reading fails at a first bad line, bytes are decided, and what they spell may be run.
-use Rattle.std.specs.Prelude.{◌≡◌, ℕ, ◌≤◌, List, Err, ◌⊎◌, All}
+-- Laws of the grammar: reading gives what bytes spell, and fails at a first bad line; bytes are decided; and what they spell may be
+-- run.
+use Rattle.std.specs.Prelude.{◌≡◌, ℕ, ◌≤◌, List, Ok, Err, ◌⊎◌, All}
 use Rattle.lw_calls.specs.Plan.{IsPlan}
 use Rattle.lw_grammar.specs.declared.reason.Reason.{Reason}
 use Rattle.lw_grammar.specs.Lines.{lines}
-use Rattle.lw_grammar.specs.Script.{Setting, at_the_top, lines_read, ScriptInput, SpellsInput, IsFirstBadIn}
+use Rattle.lw_grammar.specs.Script.{Setting, ScriptInput, SpellsInput, IsFirstBadIn}
+use Rattle.lw_grammar.specs.Reading.{at_the_top, lines_read, outcome_of}
+
+-- Reading bytes line by line gives an input exactly where they spell it.
+abbrev pub ReadingGivesSpelledInputs : Type 0
+ReadingGivesSpelledInputs =
+    (s : Setting) (bytes : List ℕ) (input : ScriptInput)
+    → (outcome_of s bytes ≡ Ok input → SpellsInput s bytes input)
+    × (SpellsInput s bytes input → outcome_of s bytes ≡ Ok input)
 
 -- Reading lines one after another fails exactly where there is a first bad line, with its number and its first reason.
 abbrev pub ReadingFailsAtFirstBadLines : Type 0
@@ -26,7 +35,8 @@ pub record IsDecidedIn (s : Setting) (bytes : List ℕ) : Type 0 where
 abbrev pub InputsAreDecided : Type 0
 InputsAreDecided = (s : Setting) (bytes : List ℕ) → IsDecidedIn s bytes
 
--- An input that may be run: its plan is one, with the hooks that were handed in, and its order names numbers that tasks may have.
+-- An input that may be run: `IsPlan` holds of its plan, which has the hooks that were handed in, and its order names numbers that
+-- tasks may have.
 pub record IsRunnableInput (s : Setting) (input : ScriptInput) : Type 0 where
   pub plan : IsPlan input.plan
   pub hooks : input.plan.sizes.hooks ≡ s.hooks

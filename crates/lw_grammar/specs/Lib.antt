@@ -5,5 +5,6 @@ pub mod Verbs
 pub mod Statements
 pub mod Told
 pub mod Script
+pub mod Reading
 pub mod GoodLines
 pub mod Laws

@@ -1,5 +1,5 @@
--- The grammar of scripts (docs/FORMATS.md has it with an example): the rule of a line, by what the lines above it tell, and the
--- outcome of lines read from the first to the last, which is an input, or the first bad line with its first reason.
+-- The grammar of scripts (docs/FORMATS.md has it with an example): the rule of a line, by what the lines above it tell; which
+-- input bytes spell, all of whose lines are good; and which is the first bad line of others, with its first reason.
 use Rattle.std.specs.Prelude.{◌≡◌, ℕ, ◌+◌, ◌-◌, ◌*◌, ◌==◌, Bool, true, false, not, ◌&&◌, ◌||◌, nat_le, nat_lt, min}
 use Rattle.std.specs.Prelude.{if◌then◌else◌, List, [], ◌∷◌, ◌++◌, length, map, ℤ, unsigned_abs, Option, Some, None, option_map}
 use Rattle.std.specs.Prelude.{is_none, Result, Ok, Err, ok_or, bytes_eq}
@@ -394,46 +394,36 @@ statements_with s above line =
     if is_skipped line then Ok above
     else (line_read s (told above) line >>= (λ l. Ok (added (stands_for (told above) l) above)))
 
--- How far lines were read: the statements that those stand for that aren't skipped, the nearest first; the number of the next
--- line, counted from 1; and how many bytes the lines have, each with a line feed.
-pub record Reached : Type 0 where
-  pub statements : List Statement
-  pub number : ℕ
-  pub place : ℕ
-
-abbrev pub at_the_top : Reached
-at_the_top = record { statements = []; number = 1; place = 0 }
-
--- how far they were read with a further line, where these are the statements with it
-abbrev pub with_line : Reached → List ℕ → List Statement → Reached
-with_line p line statements = record { statements = statements; number = p.number + 1; place = p.place + (length line + 1) }
-
--- what is found at a line of this number, or the number with the reason
-abbrev pub at_number : {A : Type 0} → ℕ → Result A Reason → Result A (ℕ × Reason)
-at_number n (Ok a) = Ok a
-at_number n (Err reason) = Err (n, reason)
-
 -- The input may end in this section.
 abbrev pub may_end : Form → Section → Bool
 may_end Plain section = are_tasks_due section
 may_end Ordered section = are_numbers_due section
 may_end Audited section = is_nothing_due section
 
--- the end of the lines, below which the input may end or something is missing
-abbrev pub end_read : Setting → Reached → Result Reached (ℕ × Reason)
-end_read s p = do
-  _ ← at_number p.number (demand (may_end s.form (told p.statements).section) Missing)
-  Ok p
+-- These lines are good, one after another, below lines with these statements, and none of them stands below a line `report`. With
+-- theirs the statements are then `all`.
+abbrev pub AreGoodBelow : Setting → List Statement → List (List ℕ) → List Statement → Type 0
+AreGoodBelow s above [] all = above ≡ all
+AreGoodBelow s above (line ∷ ls) all =
+    (is_nothing_due (told above).section ≡ false)
+    × (more : List Statement) × (statements_with s above line ≡ Ok more) × AreGoodBelow s more ls all
 
--- What lines give that stand below others: they are read one after another, up to a line `report` if there is one, or up to
--- the first bad one, whose number is told with its first reason.
-abbrev pub lines_read : Setting → Reached → List (List ℕ) → Result Reached (ℕ × Reason)
-lines_read s p [] = end_read s p
-lines_read s p (line ∷ ls) =
-    if is_nothing_due (told p.statements).section
-    then end_read s p
-    else (at_number p.number (statements_with s p.statements line)
-    >>= (λ statements. lines_read s (with_line p line statements) ls))
+-- These lines aren't lines of the script, below lines with these statements: there are none, or they stand below a line `report`.
+abbrev pub AreNoLinesBelow : List Statement → List (List ℕ) → Type 0
+AreNoLinesBelow above [] = Unit {0}
+AreNoLinesBelow above (line ∷ ls) = is_nothing_due (told above).section ≡ true
+
+-- The first of these lines isn't skipped, stands below no line `report`, and is bad, with this first reason; or there is no line,
+-- and something is missing.
+abbrev pub IsBadBelow : Setting → List Statement → List (List ℕ) → Reason → Type 0
+IsBadBelow s above [] reason = (may_end s.form (told above).section ≡ false) × (reason ≡ Missing)
+IsBadBelow s above (line ∷ ls) reason =
+    (is_nothing_due (told above).section ≡ false) × (is_skipped line ≡ false) × (line_read s (told above) line ≡ Err reason)
+
+-- how many bytes lines have, each with a line feed
+abbrev pub length_of_lines : List (List ℕ) → ℕ
+length_of_lines [] = 0
+length_of_lines (line ∷ ls) = (length line + 1) + length_of_lines ls
 
 -- What a script gives: its plan, the numbers of its order, and the place after its line `report`, or the number of
 -- bytes where there is none.
@@ -445,29 +435,17 @@ pub record ScriptInput : Type 0 where
 abbrev pub input_from : Setting → Told → ℕ → ScriptInput
 input_from s t place = record { plan = plan_of s.hooks t; order = t.order; rest = place }
 
--- The outcome of bytes as a script: the input that their lines give, or the first bad line's number, with its first reason.
-abbrev pub outcome_of : Setting → List ℕ → Result ScriptInput (ℕ × Reason)
-outcome_of s bytes = do
-  p ← lines_read s at_the_top (lines bytes)
-  Ok (input_from s (told p.statements) (min (length bytes) p.place))
-
--- The bytes spell this input.
-abbrev pub SpellsInput : Setting → List ℕ → ScriptInput → Type 0
-SpellsInput s bytes input = outcome_of s bytes ≡ Ok input
-
--- These lines are read below lines with these statements: none is bad, and none stands below a line `report`. All statements are
--- then those.
-abbrev pub AreGoodBelow : Setting → List Statement → List (List ℕ) → List Statement → Type 0
-AreGoodBelow s above [] all = above ≡ all
-AreGoodBelow s above (line ∷ ls) all =
-    (is_nothing_due (told above).section ≡ false)
-    × (more : List Statement) × (statements_with s above line ≡ Ok more) × AreGoodBelow s more ls all
-
--- The first of these lines is bad for this reason, below lines with these statements; or there is none, and something is missing.
-abbrev pub IsBadBelow : Setting → List Statement → List (List ℕ) → Reason → Type 0
-IsBadBelow s above [] reason = (may_end s.form (told above).section ≡ false) × (reason ≡ Missing)
-IsBadBelow s above (line ∷ ls) reason =
-    (is_nothing_due (told above).section ≡ false) × (is_skipped line ≡ false) × (line_read s (told above) line ≡ Err reason)
+-- The bytes spell this input: all lines of the script are good, one after another; the input may end below them; and this is the
+-- input that they give. The last line of all may lack its line feed.
+pub record SpellsInput (s : Setting) (bytes : List ℕ) (input : ScriptInput) : Type 0 where
+  pub above : List (List ℕ)
+  pub below : List (List ℕ)
+  pub statements : List Statement
+  pub lines_are : lines bytes ≡ above ++ below
+  pub read : AreGoodBelow s [] above statements
+  pub others : AreNoLinesBelow statements below
+  pub ended : may_end s.form (told statements).section ≡ true
+  pub gives : input ≡ input_from s (told statements) (min (length bytes) (length_of_lines above))
 
 -- Line number n is the first bad line, and this is its first reason; or the lines end above it, and something is missing.
 pub record IsFirstBadIn (s : Setting) (ls : List (List ℕ)) (n : ℕ) (reason : Reason) : Type 0 where

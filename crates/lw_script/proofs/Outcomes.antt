@@ -1,7 +1,8 @@
 -- The outcome of lines, a line at a time, and the place after the lines that were read.
 use Rattle.std.proofs.Common.{◌≡◌, ℕ, ◌+◌, ◌-◌, ◌<◌, ◌≤◌, Bool, true, false, min, List, [], ◌∷◌, length, Result, Ok, Err, IfOk, ⊎_elim, ◌⊎◌, refl, sym, ap, subst, ◌∙◌, arith}
 use Rattle.lw_grammar.specs.Told.{told, stands_for}
-use Rattle.lw_grammar.specs.Script.{Setting, is_nothing_due, statements_with, Reached, at_number, may_end, end_read, lines_read, ScriptInput, input_from, added, is_skipped, line_read}
+use Rattle.lw_grammar.specs.Script.{Setting, is_nothing_due, statements_with, may_end, ScriptInput, input_from, added, is_skipped, line_read}
+use Rattle.lw_grammar.specs.Reading.{Reached, at_number, end_read, lines_read}
 use Rattle.lw_grammar.specs.GoodLines.{AreGoodLines}
 use Rattle.lw_grammar.specs.declared.reason.Reason.{Reason}
 use Rattle.lw_grammar.specs.declared.reason.Reason.TheVariants.{Missing}

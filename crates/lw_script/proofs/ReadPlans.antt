@@ -16,7 +16,8 @@ use Rattle.lw_grammar.specs.Told.{pair_among, told, plan_of}
 use Rattle.lw_grammar.specs.declared.reason.Reason.{Reason}
 use Rattle.lw_grammar.specs.declared.reason.Reason.TheVariants.{Missing}
 use Rattle.lw_grammar.specs.Demands.{◌>>=◌, demand}
-use Rattle.lw_grammar.specs.Script.{Setting, Reached, at_number, may_end, ScriptInput, input_from}
+use Rattle.lw_grammar.specs.Script.{Setting, may_end, ScriptInput, input_from}
+use Rattle.lw_grammar.specs.Reading.{Reached, at_number}
 use Rattle.lw_grammar.proofs.ScriptOutcome.{rows_in_assets}
 use Rattle.lw_grammar.proofs.ScriptSizes.{counted, whole_ends}
 use Rattle.lw_grammar.proofs.ScriptRunnable.{runs_from_good}

@@ -4,7 +4,8 @@ use Rattle.lw_grammar.specs.declared.reason.Reason.{Reason}
 use Rattle.lw_grammar.specs.Demands.{◌>>=◌}
 use Rattle.lw_grammar.specs.Statements.{Statement, Line}
 use Rattle.lw_grammar.specs.Told.{stands_for, told}
-use Rattle.lw_grammar.specs.Script.{Setting, added, Reached, end_read, ScriptInput, input_from}
+use Rattle.lw_grammar.specs.Script.{Setting, added, ScriptInput, input_from}
+use Rattle.lw_grammar.specs.Reading.{Reached, end_read}
 use Rattle.lw_script.specs.declared.input.Input.{Input}
 use Rattle.lw_script.specs.declared.input.ScriptStop.{ScriptStop}
 use Rattle.lw_script.specs.declared.input.ScriptStop.TheVariants.{Refused, Memory}

@@ -3,7 +3,8 @@ ghost use Rattle.std.specs.Prelude.{◌≡◌, ℕ, ◌<◌, ◌≤◌, IfOk, le
 ghost use Rattle.std.specs.List.{range_with_len};
 ghost use Rattle.lw_grammar.specs.Statements.{Statement as StatementValue};
 ghost use Rattle.lw_grammar.specs.Told.{told, plan_of};
-ghost use Rattle.lw_grammar.specs.Script.{Setting, Reached, may_end, input_from};
+ghost use Rattle.lw_grammar.specs.Script.{Setting, may_end, input_from};
+ghost use Rattle.lw_grammar.specs.Reading.{Reached};
 ghost use Rattle.lw_words.specs.Cuts.{targets};
 ghost use Rattle.lw_statements.specs.SectionMeaning.{section_meaning};
 ghost use Rattle.lw_reader.specs.ReaderKnows.{placed};

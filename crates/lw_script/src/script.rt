@@ -2,7 +2,8 @@
 ghost use Rattle.std.specs.Prelude.{◌≡◌, ◌<◌, ℕ, IfOk, Err, length};
 ghost use Rattle.lw_grammar.specs.declared.reason.Reason.{Reason as ReasonValue};
 ghost use Rattle.lw_grammar.specs.Lines.{lines};
-ghost use Rattle.lw_grammar.specs.Script.{ScriptInput, outcome_of, SpellsInput, IsFirstBadIn, reading_with};
+ghost use Rattle.lw_grammar.specs.Script.{ScriptInput, SpellsInput, IsFirstBadIn, reading_with};
+ghost use Rattle.lw_grammar.specs.Reading.{outcome_of};
 ghost use Rattle.lw_grammar.specs.Laws.{IsRunnableInput};
 ghost use Rattle.lw_script.specs.Answers.{input_meaning, Gives, GivesInput, RefusesAt};
 

@@ -1,24 +1,25 @@
 -- Reading a script that is written out decides it: the check computes what it reads.
-use Rattle.std.proofs.Common.{◌≡◌, refl, ℕ, List, [], ◌∷◌, ◌++◌, codes, length, min, Result, Ok, Err, MatchResult}
+use Rattle.std.proofs.Common.{ℕ, List, [], ◌∷◌, ◌++◌, codes, length, min, Result, Ok, Err, MatchResult}
 use Rattle.lw_grammar.specs.Told.{told}
-use Rattle.lw_grammar.specs.Script.{Setting, Reached, at_the_top, lines_read, input_from, SpellsInput, IsFirstBadIn}
+use Rattle.lw_grammar.specs.Script.{Setting, input_from, SpellsInput, IsFirstBadIn}
+use Rattle.lw_grammar.specs.Reading.{Reached, at_the_top, lines_read}
 use Rattle.lw_grammar.specs.declared.reason.Reason.{Reason}
 use Rattle.lw_grammar.specs.Lines.{lines}
 use Rattle.lw_grammar.proofs.ScriptOutcome.{reads_decide}
-use Rattle.lw_script_cases.specs.WholeScripts.{IsSpelled, FailsAt, alone, script}
+use Rattle.lw_script_cases.specs.WholeScripts.{IsSpelled, alone, script}
 use Rattle.lw_script_cases.specs.Refused.{Refused}
 use Rattle.lw_script_cases.specs.GzzScripts.{paired}
 
--- the bytes spell an input, or reading them fails, as what is read says
+-- the bytes spell an input, or have a first bad line, as what is read says
 abbrev Decides : Setting → List ℕ → Result Reached (ℕ × Reason) → Type 0
-Decides s bytes r = MatchResult r (λ p. IsSpelled s bytes) (λ e. FailsAt s (lines bytes) e.0 e.1)
+Decides s bytes r = MatchResult r (λ p. IsSpelled s bytes) (λ e. IsFirstBadIn s (lines bytes) e.0 e.1)
 
 pub decided : (s : Setting) (bytes : List ℕ) → Decides s bytes (lines_read s at_the_top (lines bytes))
-decided s bytes = go (lines_read s at_the_top (lines bytes)) refl (reads_decide s bytes)
+decided s bytes = go (lines_read s at_the_top (lines bytes)) (reads_decide s bytes)
   where
-    go : (r : Result Reached (ℕ × Reason)) → lines_read s at_the_top (lines bytes) ≡ r → MatchResult r (λ p. SpellsInput s bytes (input_from s (told p.statements) (min (length bytes) p.place))) (λ e. IsFirstBadIn s (lines bytes) e.0 e.1) → Decides s bytes r
-    go (Ok p) e h = (input_from s (told p.statements) (min (length bytes) p.place), h)
-    go (Err bad) e h = e
+    go : (r : Result Reached (ℕ × Reason)) → MatchResult r (λ p. SpellsInput s bytes (input_from s (told p.statements) (min (length bytes) p.place))) (λ e. IsFirstBadIn s (lines bytes) e.0 e.1) → Decides s bytes r
+    go (Ok p) h = (input_from s (told p.statements) (min (length bytes) p.place), h)
+    go (Err e) h = h
 
 -- the same of each of these scripts, read alone and with no hook
 abbrev pub AreDecided : List Refused → Type 0

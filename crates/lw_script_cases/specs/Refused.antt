@@ -3,7 +3,8 @@
 use Rattle.std.specs.Prelude.{ℕ, List, [], ◌∷◌, ◌++◌, codes}
 use Rattle.lw_grammar.specs.declared.reason.Reason.{Reason}
 use Rattle.lw_grammar.specs.Lines.{lines}
-use Rattle.lw_script_cases.specs.WholeScripts.{script, alone, FailsAt, screened, in_task_a, created, in_version_2}
+use Rattle.lw_grammar.specs.Script.{IsFirstBadIn}
+use Rattle.lw_script_cases.specs.WholeScripts.{script, alone, screened, in_task_a, created, in_version_2}
 
 -- the number of a line, and the bytes of a script
 pub record Refused : Type 0 where
@@ -16,7 +17,7 @@ at_line line bytes = record { line = line; bytes = bytes }
 -- Each script, read alone and with no hook, has this first bad line, for this first reason.
 abbrev pub AreRefused : Reason → List Refused → Type 0
 AreRefused reason [] = Unit {0}
-AreRefused reason (r ∷ rs) = FailsAt (alone 0) (lines r.bytes) r.line reason × AreRefused reason rs
+AreRefused reason (r ∷ rs) = IsFirstBadIn (alone 0) (lines r.bytes) r.line reason × AreRefused reason rs
 
 -- a byte that stands in no line
 abbrev pub bad_bytes : List Refused

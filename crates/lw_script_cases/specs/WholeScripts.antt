@@ -1,11 +1,10 @@
 -- Worked cases.
 -- Scripts of the whole grammar, good ones and bad ones.
-use Rattle.std.specs.Prelude.{◌≡◌, ℕ, ◌==◌, if◌then◌else◌, List, [], ◌∷◌, ◌++◌, map, replicate, codes, Err}
+use Rattle.std.specs.Prelude.{ℕ, ◌==◌, if◌then◌else◌, List, [], ◌∷◌, ◌++◌, map, replicate, codes}
 use Rattle.std.specs.List.{flat_map, range_with_len}
 use Rattle.std.specs.Fmt.{decimal}
 use Rattle.lw_grammar.specs.declared.form.Form.TheVariants.{Plain, Ordered, Audited}
-use Rattle.lw_grammar.specs.declared.reason.Reason.{Reason}
-use Rattle.lw_grammar.specs.Script.{Setting, ScriptInput, SpellsInput, at_the_top, lines_read}
+use Rattle.lw_grammar.specs.Script.{Setting, ScriptInput, SpellsInput}
 use Rattle.lw_cases.specs.Drawing.{first_fill}
 
 -- the byte that a character of a script stands for: / for a line feed, and ' for a double quote
@@ -29,11 +28,6 @@ with_report hooks = record { hooks = hooks; form = Audited }
 -- no line of these bytes is bad, so they spell an input
 abbrev pub IsSpelled : Setting → List ℕ → Type 0
 IsSpelled s bytes = (input : ScriptInput) × SpellsInput s bytes input
-
--- Reading these lines fails at this one, for this reason. By the law `reading_fails_at_first_bad_lines` that is so exactly where it
--- is the first bad line, and this its first reason.
-abbrev pub FailsAt : Setting → List (List ℕ) → ℕ → Reason → Type 0
-FailsAt s ls n reason = lines_read s at_the_top ls ≡ Err (n, reason)
 
 -- a first line, the beginning of a task, and a creation in it
 abbrev pub screened : List ℕ

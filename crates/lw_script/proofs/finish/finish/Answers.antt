@@ -1,6 +1,7 @@
 use Rattle.std.proofs.Common.{◌≡◌, true, Ok, sym, ap, ◌∙◌}
 use Rattle.lw_grammar.specs.Told.{told}
-use Rattle.lw_grammar.specs.Script.{at_number, may_end, input_from}
+use Rattle.lw_grammar.specs.Script.{may_end, input_from}
+use Rattle.lw_grammar.specs.Reading.{at_number}
 use Rattle.lw_grammar.specs.Demands.{◌>>=◌, demand}
 use Rattle.lw_grammar.specs.declared.reason.Reason.TheVariants.{Missing}
 use Rattle.lw_script.proofs.ReadPlans.{ends_alike, ended_early}

@@ -1,6 +1,7 @@
 use Rattle.std.proofs.Common.{◌≡◌, ℕ, ◌+◌, Bool, true, false, ◌⊎◌, [], length, Result, Err, refl, sym, ap, subst, ◌∙◌, arith}
 use Rattle.lw_grammar.specs.Told.{told}
-use Rattle.lw_grammar.specs.Script.{is_nothing_due, at_the_top, with_line, lines_read, ScriptInput, outcome_of, reading_with}
+use Rattle.lw_grammar.specs.Script.{is_nothing_due, ScriptInput, reading_with}
+use Rattle.lw_grammar.specs.Reading.{at_the_top, with_line, lines_read, outcome_of}
 use Rattle.std.proofs.lemmas.Result.{err_from_is_err_and}
 use Rattle.lw_grammar.specs.declared.reason.Reason.{Reason}
 use Rattle.lw_grammar.specs.Lines.{lines}

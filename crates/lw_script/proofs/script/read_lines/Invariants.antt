@@ -1,5 +1,6 @@
 use Rattle.std.proofs.Common.{◌≡◌, ◌+◌, ◌-◌, ◌≤◌, length, min}
-use Rattle.lw_grammar.specs.Script.{Reached, at_the_top, lines_read, reading_with}
+use Rattle.lw_grammar.specs.Script.{reading_with}
+use Rattle.lw_grammar.specs.Reading.{Reached, at_the_top, lines_read}
 use Rattle.lw_grammar.specs.GoodLines.{AreGoodLines}
 use Rattle.lw_grammar.specs.Lines.{lines}
 use Rattle.lw_reader.specs.Represents.{Represents}

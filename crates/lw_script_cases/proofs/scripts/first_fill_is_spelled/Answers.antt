@@ -4,8 +4,10 @@ use Rattle.lw_planes.specs.Row.{row_bit}
 use Rattle.lw_calls.specs.Limits.{axis_fits}
 use Rattle.lw_grammar.specs.Verbs.{verb_of}
 use Rattle.std.proofs.Common.{refl}
+use Rattle.lw_grammar.proofs.ScriptOutcome.{outcome_spells}
+use Rattle.lw_script_cases.specs.WholeScripts.{alone, first_fill_script, first_fill_input}
 use Rattle.lw_script_cases.proofs.scripts.first_fill_is_spelled.Goals as goal
 
 pub returns : goal.returns
 unfolding digits within row_bit axis_fits verb_of
-returns c = refl
+returns c = outcome_spells (alone 0) first_fill_script first_fill_input refl

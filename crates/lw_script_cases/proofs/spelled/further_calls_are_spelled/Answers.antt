@@ -4,8 +4,12 @@ use Rattle.lw_planes.specs.Row.{row_bit}
 use Rattle.lw_calls.specs.Limits.{axis_fits}
 use Rattle.lw_grammar.specs.Verbs.{verb_of}
 use Rattle.std.proofs.Common.{refl}
+use Rattle.lw_grammar.proofs.ScriptOutcome.{outcome_spells}
+use Rattle.lw_script_cases.specs.WholeScripts.{alone}
+use Rattle.lw_script_cases.specs.CanonicalTexts.{further_calls, further_calls_text}
+use Rattle.lw_script_cases.specs.SpelledPlans.{input_of}
 use Rattle.lw_script_cases.proofs.spelled.further_calls_are_spelled.Goals as goal
 
 pub returns : goal.returns
 unfolding digits within row_bit axis_fits verb_of
-returns c = refl
+returns c = outcome_spells (alone 0) further_calls_text (input_of further_calls 438) refl
