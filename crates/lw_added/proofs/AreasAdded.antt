@@ -1,7 +1,7 @@
 -- The statements of an area one after another, and those of a line that was read.
 use Rattle.std.proofs.Common.{◌≡◌, ℕ, ◌+◌, ◌<◌, ◌≤◌, ◌==◌, true, false, List, [], ◌∷◌, length, map, drop, get_or, Option, option_map, Some, None, is_some, refl, sym, ap, subst, ◌∙◌, arith}
 use Rattle.lw_region.specs.Rectangle.{Rectangle}
-use Rattle.lw_grammar.specs.Statements.{Statement, FillAct, CallLine, NameSeen}
+use Rattle.lw_grammar.specs.Statements.{Statement, FillAct, CallLine, NameWithoutSlot}
 use Rattle.lw_grammar.specs.Told.{OpenGroup, fill_lines, area_lines, told}
 use Rattle.lw_grammar.specs.Script.{Setting, added}
 use Rattle.lw_grammar.specs.GoodLines.{AreGoodLines}
@@ -16,7 +16,7 @@ use Rattle.std.proofs.lemmas.Bool.{eqb-true, false≢true, true≢false}
 use Rattle.std.proofs.lemmas.List.{drop_more, drop_all}
 
 -- an area's statements in no group, and in one
-pub lines_without : (o : Option OpenGroup) (layer : List ℕ) (rects : List Rectangle) → (length rects == 0) ≡ true → area_lines o layer rects ≡ NameSeen layer ∷ []
+pub lines_without : (o : Option OpenGroup) (layer : List ℕ) (rects : List Rectangle) → (length rects == 0) ≡ true → area_lines o layer rects ≡ NameWithoutSlot layer ∷ []
 lines_without o layer [] e = refl
 lines_without o layer (r ∷ rs) e = absurd (omega (arith, eqb-true (length (r ∷ rs)) 0 e))
 

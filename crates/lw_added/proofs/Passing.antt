@@ -1,6 +1,6 @@
 -- Lines that leave what the reader has read: of glyphs, bitmaps and patterns, or of tasks.
 use Rattle.std.proofs.Common.{◌≡◌, ℕ, ◌==◌, Bool, true, false, List, ◌∷◌, Result, Ok, Err, OnOk, ℤ, refl, sym, subst, ◌∙◌}
-use Rattle.lw_grammar.specs.Statements.{Statement, LayersLine, ScreenLine, GlyphLine, BitmapLine, RowLine, PatternLine, TaskLine, EndLine, OrderLine, NumbersLine, ReportLine, CallLine, LockLine, UnlockLine, HoldLine, ReleaseLine, NameSeen, PairMade}
+use Rattle.lw_grammar.specs.Statements.{Statement, LayersLine, ScreenLine, GlyphLine, BitmapLine, RowLine, PatternLine, TaskLine, EndLine, OrderLine, NumbersLine, ReportLine, CallLine, LockLine, UnlockLine, HoldLine, ReleaseLine, NameWithoutSlot, PairMade}
 use Rattle.lw_grammar.specs.Told.{told}
 use Rattle.lw_grammar.specs.Script.{Setting}
 use Rattle.lw_statements.specs.declared.section.Section.{Section}
@@ -27,7 +27,7 @@ leaves_tasks (LockLine name) = false
 leaves_tasks (UnlockLine name) = false
 leaves_tasks HoldLine = false
 leaves_tasks ReleaseLine = false
-leaves_tasks (NameSeen name) = false
+leaves_tasks (NameWithoutSlot name) = false
 leaves_tasks (PairMade outer inner) = false
 leaves_tasks f = true
 
@@ -54,7 +54,7 @@ assets_pass a above (RowLine bytes) e k = absurd (false≢true e)
 assets_pass a above (PatternLine name words) e k = absurd (false≢true e)
 assets_pass a above f e k =
     record {
-      glyph_codes = k.glyph_codes;
+      has_glyph = k.has_glyph;
       glyphs = k.glyphs;
       names = k.names;
       width = k.width;
@@ -74,7 +74,7 @@ tasks_pass t above (LockLine name) e k = absurd (false≢true e)
 tasks_pass t above (UnlockLine name) e k = absurd (false≢true e)
 tasks_pass t above HoldLine e k = absurd (false≢true e)
 tasks_pass t above ReleaseLine e k = absurd (false≢true e)
-tasks_pass t above (NameSeen name) e k = absurd (false≢true e)
+tasks_pass t above (NameWithoutSlot name) e k = absurd (false≢true e)
 tasks_pass t above (PairMade outer inner) e k = absurd (false≢true e)
 tasks_pass t above f e k =
     record {
@@ -83,7 +83,7 @@ tasks_pass t above f e k =
       names_without_slot = k.names_without_slot;
       pairs = k.pairs;
       supers = k.supers;
-      hooks_named = k.hooks_named;
+      names_hook = k.names_hook;
       group = k.group;
       calls_before_group = k.calls_before_group;
       calls_in_task = k.calls_in_task;

@@ -4,7 +4,7 @@ ghost use Rattle.std.specs.List.{list_all};
 ghost use Rattle.lw_region.specs.Rectangle.{within};
 ghost use Rattle.lw_grammar.specs.Statements.{Statement as StatementValue, ScreenLine, GlyphLine, BitmapLine, RowLine};
 ghost use Rattle.lw_grammar.specs.Statements.{PatternLine, TaskLine, NumbersLine, CallLine, LockLine, UnlockLine, HoldLine};
-ghost use Rattle.lw_grammar.specs.Statements.{ReleaseLine, NameSeen, PairMade};
+ghost use Rattle.lw_grammar.specs.Statements.{ReleaseLine, NameWithoutSlot, PairMade};
 ghost use Rattle.lw_words.specs.Digits.{decoded};
 ghost use Rattle.lw_grammar.specs.Script.{Setting};
 ghost use Rattle.lw_words.specs.Cuts.{targets};
@@ -131,11 +131,11 @@ fn add_release(reader: &mut Reader<'_>) -> Result<(), AllocError>
 }
 
 /// Adds a name that stands on a line without a call.
-pub(crate) fn add_seen<'a>(reader: &mut Reader<'a>, name: &'a [u8]) -> Result<(), AllocError>
+pub(crate) fn add_name_without_slot<'a>(reader: &mut Reader<'a>, name: &'a [u8]) -> Result<(), AllocError>
     ensures { (s : Setting) (above : List StatementValue) → Represents s reader.old above
-        → OnOk result (Represents s reader.new (NameSeen name.entry.now ∷ above)) }
+        → OnOk result (Represents s reader.new (NameWithoutSlot name.entry.now ∷ above)) }
 {
-    reader.tasks.add_seen(name)
+    reader.tasks.add_name_without_slot(name)
 }
 
 /// Adds a window of two layers.

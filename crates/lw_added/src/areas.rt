@@ -8,7 +8,7 @@ ghost use Rattle.lw_reader.specs.ReaderKnows.{known};
 ghost use Rattle.lw_added.specs.Added.{locked_fills};
 ghost use Rattle.lw_reader.specs.Represents.{Represents, CanAdd, CanAddAll};
 
-use crate::adding::{add_call, add_lock, add_seen, add_unlock};
+use crate::adding::{add_call, add_lock, add_name_without_slot, add_unlock};
 use lw_reader::Reader;
 use lw_region::Rect;
 use lw_statements::{Act, Corners, Layers};
@@ -86,7 +86,7 @@ pub(crate) fn add_area<'a>(
         → OnOk result (Represents s reader.new (added (area_lines (told above).group layer.entry.now rects.now) above)) }
 {
     if rects.is_empty() {
-        return add_seen(reader, layer);
+        return add_name_without_slot(reader, layer);
     }
     if reader.tasks.group.is_some() {
         return add_fills(alloc, reader, layer, rects);

@@ -123,7 +123,7 @@ screen_spelled s t above g written screen =
 record AreBase (v w h d : ℕ) (lines : List Statement) : Type 0 where
   bare : IsBare v w h d lines
   alone : IsWithoutBitmaps lines
-  glyph_codes : (told lines).glyph_codes ≡ nothing_told.glyph_codes
+  has_glyph : (told lines).has_glyph ≡ nothing_told.has_glyph
   glyphs : (code : ℕ) → (told lines).glyphs code ≡ replicate 8 0
 
 -- what holds of the versions 1 and 2 holds of that of good lines below a screen's
@@ -144,8 +144,8 @@ screen_base s above g has =
     record { version = refl; section = refl; width = refl; height = refl; depth = refl; patterns = refl; tasks = refl; names = refl; names_without_slot = refl; pairs = refl; supers = refl; hooks = refl; group = refl; calls_in_task = refl; calls_before_group = refl; calls = refl; groups = refl } in
     let two : IsBare 2 w h d (ScreenLine (pos w) (pos h) (pos d) ∷ LayersLine ∷ []) =
     record { version = refl; section = refl; width = refl; height = refl; depth = refl; patterns = refl; tasks = refl; names = refl; names_without_slot = refl; pairs = refl; supers = refl; hooks = refl; group = refl; calls_in_task = refl; calls_before_group = refl; calls = refl; groups = refl } in
-    let first : P 1 = record { bare = one; alone = record { due = refl; width = refl; names = refl; made = λ rows. refl }; glyph_codes = refl; glyphs = λ code. refl } in
-    let second : P 2 = record { bare = two; alone = record { due = refl; width = refl; names = refl; made = λ rows. refl }; glyph_codes = refl; glyphs = λ code. refl } in
+    let first : P 1 = record { bare = one; alone = record { due = refl; width = refl; names = refl; made = λ rows. refl }; has_glyph = refl; glyphs = λ code. refl } in
+    let second : P 2 = record { bare = two; alone = record { due = refl; width = refl; names = refl; made = λ rows. refl }; has_glyph = refl; glyphs = λ code. refl } in
     by_version P first second (told above).version k.some_version k.small_version
 
 -- the glyphs over it
@@ -166,7 +166,7 @@ screened_base_spelled s t above g written has =
     let screen : List Statement = screen_of above in
     let k = screen_base s above g has in
     let glyphs : AreSpelled t (glyphs_of above) =
-    over_spelled s t above screen g written v w h d k.bare k.alone k.glyph_codes (screen_spelled s t above g written has) 95 in
+    over_spelled s t above screen g written v w h d k.bare k.alone k.has_glyph (screen_spelled s t above g written has) 95 in
     let all : AreSpelled t (kept above (glyphs_of above)) =
     kept_spelled s t v w h d (glyphs_of above) (bare_over above screen v w h d 95 k.bare) (unmapped_over above screen 95 k.alone) above g written glyphs in
     subst (AreSpelled t) (base_parts above) all

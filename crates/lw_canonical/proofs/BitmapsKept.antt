@@ -23,7 +23,7 @@ pub record IsBare (v w h d : ℕ) (lines : List Statement) : Type 0 where
   pub names_without_slot : (told lines).names_without_slot ≡ []
   pub pairs : (told lines).pairs ≡ []
   pub supers : (told lines).supers ≡ 0
-  pub hooks : (told lines).hooks_named ≡ nothing_told.hooks_named
+  pub hooks : (told lines).names_hook ≡ nothing_told.names_hook
   pub group : (told lines).group ≡ None
   pub calls_in_task : (told lines).calls_in_task ≡ 0
   pub calls_before_group : (told lines).calls_before_group ≡ 0

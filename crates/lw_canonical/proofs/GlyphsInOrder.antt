@@ -70,11 +70,11 @@ module _ (above base : List Statement) where
       over_keeps IsWithoutBitmaps (λ code rows lines k. record { due = k.due; width = k.width; names = k.names; made = k.made }) k n
 
   -- a later code is new
-  new_over : (told base).glyph_codes ≡ nothing_told.glyph_codes → (n code : ℕ) → 32 + n ≤ code → (told (glyphs_over n)).glyph_codes code ≡ false
-  new_over e zero code h = ap (λ glyph_codes. glyph_codes code) e
+  new_over : (told base).has_glyph ≡ nothing_told.has_glyph → (n code : ℕ) → 32 + n ≤ code → (told (glyphs_over n)).has_glyph code ≡ false
+  new_over e zero code h = ap (λ has_glyph. has_glyph code) e
   new_over e (suc n) code h = step (list_all (λ row. row == 0) (rows_at n)) (new_over e n code (omega (arith, h)))
     where
-      step : (t : Bool) → (told (glyphs_over n)).glyph_codes code ≡ false → (told (cond t [] (GlyphLine (32 + n) (rows_at n) ∷ []) ++ glyphs_over n)).glyph_codes code ≡ false
+      step : (t : Bool) → (told (glyphs_over n)).has_glyph code ≡ false → (told (cond t [] (GlyphLine (32 + n) (rows_at n) ∷ []) ++ glyphs_over n)).has_glyph code ≡ false
       step true k = k
       step false k = or_from (32 + n == code) _ (ne_eqb (32 + n) code (λ same. omega (arith, h, same))) k
 
@@ -141,7 +141,7 @@ module _ (s : Setting) (above base : List Statement) (g : AreGoodLines s above) 
           at false d = k (earlier d)
 
 -- a good glyph line reads again over lines that tell of a screen alone, and of other codes
-glyph_again : (s t : Setting) (v w h d code : ℕ) (rows : List ℕ) (above lines : List Statement) → AreGoodLines s (GlyphLine code rows ∷ above) → IsWritten s above (GlyphLine code rows) → IsBare v w h d lines → IsWithoutBitmaps lines → (told lines).glyph_codes code ≡ false → IsWritten t lines (GlyphLine code rows)
+glyph_again : (s t : Setting) (v w h d code : ℕ) (rows : List ℕ) (above lines : List Statement) → AreGoodLines s (GlyphLine code rows ∷ above) → IsWritten s above (GlyphLine code rows) → IsBare v w h d lines → IsWithoutBitmaps lines → (told lines).has_glyph code ≡ false → IsWritten t lines (GlyphLine code rows)
 glyph_again s t v w h d code rows above lines g written bare b new =
     let f : Statement = GlyphLine code rows in
     let at = here s above (GlyphLine code rows) g in
@@ -152,7 +152,7 @@ glyph_again s t v w h d code rows above lines g written bare b new =
     spelled_again s t above lines f written (plain_statements s t above lines AssetsAreDue f at.0 (eq-eqb _ 0 b.due) (in_assets _ at.1) bare.section refl refl) (tests_pass t lines f tested)
 
 -- So do all glyphs in order.
-pub over_spelled : (s t : Setting) (above base : List Statement) → AreGoodLines s above → AreWritten s above → (v w h d : ℕ) → IsBare v w h d base → IsWithoutBitmaps base → (told base).glyph_codes ≡ nothing_told.glyph_codes → AreSpelled t base → (n : ℕ) → AreSpelled t (glyphs_over above base n)
+pub over_spelled : (s t : Setting) (above base : List Statement) → AreGoodLines s above → AreWritten s above → (v w h d : ℕ) → IsBare v w h d base → IsWithoutBitmaps base → (told base).has_glyph ≡ nothing_told.has_glyph → AreSpelled t base → (n : ℕ) → AreSpelled t (glyphs_over above base n)
 over_spelled s t above base g written v w h d bare b e k zero = k
 over_spelled s t above base g written v w h d bare b e k (suc n) =
     step (list_all (λ row. row == 0) ((told above).glyphs (32 + n))) refl (over_spelled s t above base g written v w h d bare b e k n)

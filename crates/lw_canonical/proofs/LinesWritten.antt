@@ -11,7 +11,7 @@ use Rattle.lw_grammar.specs.declared.verb.PartVerb.TheVariants.{Lock as LockVerb
 use Rattle.lw_grammar.specs.declared.verb.Verb.TheVariants.{Part, Fill as FillVerb}
 use Rattle.lw_grammar.specs.Tokens.{NameToken, token_of}
 use Rattle.lw_grammar.specs.Verbs.{verb_of}
-use Rattle.lw_grammar.specs.Statements.{FillAct, Statement, CallLine, LockLine, UnlockLine, NameSeen, GzzAct, OpenGzz, BoxGzz, FrontGzz, BehindGzz, InFrontGzz, CloseGzz, Line, StatementLine, AreaLine, GzzLine, line_by}
+use Rattle.lw_grammar.specs.Statements.{FillAct, Statement, CallLine, LockLine, UnlockLine, NameWithoutSlot, GzzAct, OpenGzz, BoxGzz, FrontGzz, BehindGzz, InFrontGzz, CloseGzz, Line, StatementLine, AreaLine, GzzLine, line_by}
 use Rattle.lw_grammar.specs.Told.{Section, OpenGroup, NamedPair, area_words, fill_lines, area_lines, gzz_lines, stands_for, told}
 use Rattle.lw_grammar.specs.Script.{Setting, are_calls_due, are_numbers_due, parts_pair, line_read, added}
 use Rattle.lw_grammar.specs.GoodLines.{IsGoodLine, AreGoodLines}
@@ -113,7 +113,7 @@ screen_small s above g calls =
 
 -- a statement that is written is so where a line stands for it
 own_written : (s : Setting) (above : List Statement) (f : Statement) → IsWritten s above f → IsOwnWritten s above f
-own_written s above (NameSeen name) w = tt
+own_written s above (NameWithoutSlot name) w = tt
 own_written s above f w = w
 
 -- a further line that was read is written, or stands for statements that are
@@ -150,7 +150,7 @@ written_more s above line l e h =
 
 -- Lines that are written spell what stands above the tasks.
 own_first : (s : Setting) (above : List Statement) (f : Statement) → is_first f ≡ true → IsOwnWritten s above f → IsWritten s above f
-own_first s above (NameSeen name) h w = absurd (false≢true h)
+own_first s above (NameWithoutSlot name) h w = absurd (false≢true h)
 own_first s above f h w = w
 
 none_first : (s : Setting) (fs above : List Statement) → list_all (λ f. not (is_first f)) fs ≡ true → AreWritten s above → AreWritten s (added fs above)

@@ -3,7 +3,7 @@ use Rattle.std.proofs.Common.{◌≡◌, ℕ, ◌+◌, ◌-◌, ◌≤◌, ◌==
 use Rattle.lw_calls.specs.declared.group.Hold.{Hold}
 use Rattle.lw_calls.specs.declared.group.Hold.TheVariants.{Slot, All as AllLayers}
 use Rattle.lw_grammar.specs.declared.verb.BareVerb.TheVariants.{Refresh as RefreshVerb}
-use Rattle.lw_grammar.specs.Statements.{Act, BareAct, EndRefreshAct, Statement, LayersLine, ScreenLine, GlyphLine, BitmapLine, RowLine, PatternLine, TaskLine, EndLine, OrderLine, NumbersLine, ReportLine, CallLine, LockLine, UnlockLine, HoldLine, ReleaseLine, NameSeen, PairMade, version_at_screen}
+use Rattle.lw_grammar.specs.Statements.{Act, BareAct, EndRefreshAct, Statement, LayersLine, ScreenLine, GlyphLine, BitmapLine, RowLine, PatternLine, TaskLine, EndLine, OrderLine, NumbersLine, ReportLine, CallLine, LockLine, UnlockLine, HoldLine, ReleaseLine, NameWithoutSlot, PairMade, version_at_screen}
 use Rattle.lw_grammar.specs.Told.{Section, ScreenIsDue, AssetsAreDue, CallsAreDue, TasksAreDue, NumbersAreDue, NothingIsDue, nothing_told, and_name, and_names, place_among, onto_last, spelled_call, call_below, makes_super, hook_on, and_hook, left_open_by, group_from, told}
 use Rattle.lw_grammar.specs.Script.{Setting, are_calls_due, are_tasks_due, are_numbers_due}
 use Rattle.lw_grammar.specs.GoodLines.{AreGoodLines}
@@ -20,7 +20,7 @@ pub record AreBare (above : List Statement) : Type 0 where
   pub names_without_slot : (told above).names_without_slot ≡ []
   pub pairs : (told above).pairs ≡ []
   pub supers : (told above).supers ≡ 0
-  pub hooks : (told above).hooks_named ≡ nothing_told.hooks_named
+  pub hooks : (told above).names_hook ≡ nothing_told.names_hook
   pub group : (told above).group ≡ None
   pub calls_in_task : (told above).calls_in_task ≡ 0
   pub calls_before_group : (told above).calls_before_group ≡ 0
@@ -84,7 +84,7 @@ bare s (CallLine layers act ∷ above) g n = absurd (both_begun (told above).sec
 bare s (LockLine name ∷ above) g n = absurd (both_begun (told above).section (calls_begun (told above).section (here s above (LockLine name) g).1) n)
 bare s (UnlockLine name ∷ above) g n = absurd (both_begun (told above).section (calls_begun (told above).section (here s above (UnlockLine name) g).1) n)
 bare s (HoldLine ∷ above) g n = absurd (both_begun (told above).section (calls_begun (told above).section (here s above HoldLine g).1) n)
-bare s (NameSeen name ∷ above) g n = absurd (both_begun (told above).section (calls_begun (told above).section (here s above (NameSeen name) g).1) n)
+bare s (NameWithoutSlot name ∷ above) g n = absurd (both_begun (told above).section (calls_begun (told above).section (here s above (NameWithoutSlot name) g).1) n)
 bare s (PairMade outer inner ∷ above) g n = absurd (both_begun (told above).section (calls_begun (told above).section (here s above (PairMade outer inner) g).1) n)
 bare s (ReleaseLine ∷ above) g n = absurd (both_begun (told above).section (calls_begun (told above).section (here s above ReleaseLine g).1) n)
 
@@ -114,7 +114,7 @@ pub record AreAlike (above new : List Statement) : Type 0 where
   pub names_without_slot : (told new).names_without_slot ≡ []
   pub pairs : (told new).pairs ≡ (told above).pairs
   pub supers : (told new).supers ≡ (told above).supers
-  pub hooks : (told new).hooks_named ≡ (told above).hooks_named
+  pub hooks : (told new).names_hook ≡ (told above).names_hook
   pub group : (told new).group ≡ (told above).group
   pub calls_in_task : (told new).calls_in_task ≡ (told above).calls_in_task
   pub calls_before_group : (told new).calls_before_group ≡ (told above).calls_before_group
@@ -239,7 +239,7 @@ module _ (above new : List Statement) (a : AreAlike above new) where
 
   -- no name stands alone, and the windows of two layers
   more_seen : (f : Statement) → is_of_tasks f ≡ true → (told (f ∷ new)).names_without_slot ≡ []
-  more_seen (NameSeen name) t = absurd (false≢true t)
+  more_seen (NameWithoutSlot name) t = absurd (false≢true t)
   more_seen f t = a.names_without_slot
 
   more_pairs : (f : Statement) → (told (f ∷ new)).pairs ≡ (told (f ∷ above)).pairs
@@ -251,7 +251,7 @@ module _ (above new : List Statement) (a : AreAlike above new) where
   more_supers (CallLine layers act) = ap (λ n. cond (makes_super (CallLine layers act)) 1 0 + n) a.supers
   more_supers f = a.supers
 
-  more_hooks : (f : Statement) → (told (f ∷ new)).hooks_named ≡ (told (f ∷ above)).hooks_named
+  more_hooks : (f : Statement) → (told (f ∷ new)).names_hook ≡ (told (f ∷ above)).names_hook
   more_hooks (CallLine layers act) = ap (and_hook (hook_on (CallLine layers act))) a.hooks
   more_hooks f = a.hooks
 
@@ -372,7 +372,7 @@ abbrev is_of_end : Statement → Bool
 is_of_end OrderLine = true
 is_of_end (NumbersLine zs) = true
 is_of_end ReportLine = true
-is_of_end (NameSeen name) = true
+is_of_end (NameWithoutSlot name) = true
 is_of_end f = false
 
 alike_behind : (above new : List Statement) (f : Statement) → is_of_end f ≡ true → section_alone (told (f ∷ above)).section ≡ section_alone (told above).section → AreAlike above new → AreAlike (f ∷ above) new
@@ -474,7 +474,7 @@ alike s (HoldLine ∷ above) base g e b =
     alike_more above _ (alike s above base g.1 (calls_screen (told above).section (here s above HoldLine g).1) (base_below HoldLine above base refl b)) HoldLine refl
 alike s (ReleaseLine ∷ above) base g e b =
     alike_more above _ (alike s above base g.1 (calls_screen (told above).section (here s above ReleaseLine g).1) (base_below ReleaseLine above base refl b)) ReleaseLine refl
-alike s (NameSeen name ∷ above) base g e b =
-    alike_behind above _ (NameSeen name) refl refl (alike s above base g.1 (calls_screen (told above).section (here s above (NameSeen name) g).1) (base_below (NameSeen name) above base refl b))
+alike s (NameWithoutSlot name ∷ above) base g e b =
+    alike_behind above _ (NameWithoutSlot name) refl refl (alike s above base g.1 (calls_screen (told above).section (here s above (NameWithoutSlot name) g).1) (base_below (NameWithoutSlot name) above base refl b))
 alike s (PairMade outer inner ∷ above) base g e b =
     alike_more above _ (alike s above base g.1 (calls_screen (told above).section (here s above (PairMade outer inner) g).1) (base_below (PairMade outer inner) above base refl b)) (PairMade outer inner) refl

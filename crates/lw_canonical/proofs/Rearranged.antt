@@ -3,7 +3,7 @@
 use Rattle.std.proofs.Common.{◌||◌, ◌≡◌, ℕ, ◌+◌, ◌≤◌, Bool, true, false, List, [], ◌∷◌, ◌++◌, filter, reverse, pos, None, Ok}
 use Rattle.std.specs.List.{flat_map, range_with_len}
 use Rattle.lw_grammar.specs.declared.form.Form.TheVariants.{Plain}
-use Rattle.lw_grammar.specs.Statements.{Statement, LayersLine, ScreenLine, GlyphLine, BitmapLine, RowLine, TaskLine, EndLine, CallLine, LockLine, UnlockLine, HoldLine, ReleaseLine, NameSeen, PairMade, Line, StatementLine, AreaLine, GzzLine}
+use Rattle.lw_grammar.specs.Statements.{Statement, LayersLine, ScreenLine, GlyphLine, BitmapLine, RowLine, TaskLine, EndLine, CallLine, LockLine, UnlockLine, HoldLine, ReleaseLine, NameWithoutSlot, PairMade, Line, StatementLine, AreaLine, GzzLine}
 use Rattle.lw_grammar.specs.Told.{AssetsAreDue, nothing_told, stands_for, told}
 use Rattle.lw_grammar.specs.Script.{Setting, is_skipped, is_nothing_due, parts_pair, line_read, added}
 use Rattle.lw_canonical.specs.Spelling.{spelled, written}
@@ -100,7 +100,7 @@ AreWritten s (f ∷ above) = IsFirstWritten s above f × AreWritten s above
 
 -- The same of a statement for which a line stands alone: a name that stands alone has none here.
 abbrev pub IsOwnWritten : Setting → List Statement → Statement → Type 0
-IsOwnWritten s above (NameSeen name) = Unit {0}
+IsOwnWritten s above (NameWithoutSlot name) = Unit {0}
 IsOwnWritten s above f = IsWritten s above f
 
 -- The line is what its one spelling says below the others: a statement that parts no window of two layers, or what is done with one.
@@ -135,7 +135,7 @@ pub record IsBaseOf (above base : List Statement) : Type 0 where
   pub names_without_slot : (told base).names_without_slot ≡ []
   pub pairs : (told base).pairs ≡ []
   pub supers : (told base).supers ≡ 0
-  pub hooks : (told base).hooks_named ≡ nothing_told.hooks_named
+  pub hooks : (told base).names_hook ≡ nothing_told.names_hook
   pub group : (told base).group ≡ None
   pub calls_in_task : (told base).calls_in_task ≡ 0
   pub calls_before_group : (told base).calls_before_group ≡ 0

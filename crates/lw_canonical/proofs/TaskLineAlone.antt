@@ -17,9 +17,9 @@ use Rattle.lw_grammar.specs.declared.verb.BareVerb.TheVariants.{Close as CloseVe
 use Rattle.lw_grammar.specs.declared.verb.NumberVerb.TheVariants.{APen as APenVerb}
 use Rattle.lw_grammar.specs.declared.verb.PairVerb.TheVariants.{Move as MoveVerb}
 use Rattle.lw_grammar.specs.declared.verb.TextVerb.TheVariants.{Text as TextOf}
-use Rattle.lw_grammar.specs.Statements.{Act, BareAct, NumberAct, PairAct, TextAct, RegRectAct, RegPairAct, Statement, GlyphLine, BitmapLine, RowLine, PatternLine, TaskLine, OrderLine, NumbersLine, ReportLine, CallLine, NameSeen, PairMade, GzzAct, OpenGzz, BoxGzz, FrontGzz, BehindGzz, InFrontGzz, CloseGzz, Line, StatementLine, GzzLine, row_line, numbers_line, line_by, is_line_in_range, is_gzz_in_range}
+use Rattle.lw_grammar.specs.Statements.{Act, BareAct, NumberAct, PairAct, TextAct, RegRectAct, RegPairAct, Statement, GlyphLine, BitmapLine, RowLine, PatternLine, TaskLine, OrderLine, NumbersLine, ReportLine, CallLine, NameWithoutSlot, PairMade, GzzAct, OpenGzz, BoxGzz, FrontGzz, BehindGzz, InFrontGzz, CloseGzz, Line, StatementLine, GzzLine, row_line, numbers_line, line_by, is_line_in_range, is_gzz_in_range}
 use Rattle.lw_grammar.specs.Told.{Section, ScreenIsDue, AssetsAreDue, CallsAreDue, TasksAreDue, NumbersAreDue, NothingIsDue, OpenGroup, NamedPair, Told, hook_on, gzz_lines, stands_for, told, told_all}
-use Rattle.lw_grammar.specs.Script.{Setting, is_skipped, are_assets_due, are_calls_due, are_tasks_due, is_nothing_due, lacks_name, gives_again, fits_group, are_few, is_used, has_padding, parts_pair, stands_above, lacks_pair, names_again, comes_between, are_numbers_due, is_known_in, belongs_in, verb_on, after_verb, verb_read, stated as stated_line, line_made, tested_with, gzz_tested, line_tested, line_read, added}
+use Rattle.lw_grammar.specs.Script.{Setting, is_skipped, are_assets_due, are_calls_due, are_tasks_due, is_nothing_due, lacks_name, gives_again, fits_group, are_few, is_hook_named, has_padding, parts_pair, stands_above, lacks_pair, names_again, comes_between, are_numbers_due, is_known_in, belongs_in, verb_on, after_verb, verb_read, stated as stated_line, line_made, tested_with, gzz_tested, line_tested, line_read, added}
 use Rattle.lw_canonical.specs.Spelling.{joined, call_words, words_of, spelled, gzz_words, written}
 use Rattle.lw_grammar.proofs.ScriptSizes.{IsStatementTested, tests_pass, few_counted, counted_few}
 use Rattle.lw_canonical.proofs.Rearranged.{is_of_tasks, alone}
@@ -54,13 +54,13 @@ call_kept layers act = refl
 
 -- a line may stand for the statement alone
 abbrev pub has_line : Statement → Bool
-has_line (NameSeen name) = false
+has_line (NameWithoutSlot name) = false
 has_line (PairMade outer inner) = false
 has_line f = true
 
 -- so it is of what was read
 pub read_has_line : (s : Setting) (t : Told) (f : Statement) → line_read s t (spelled f) ≡ Ok (StatementLine f) → has_line f ≡ true
-read_has_line s t (NameSeen name) e = absurd (cc)
+read_has_line s t (NameWithoutSlot name) e = absurd (cc)
 read_has_line s t (PairMade outer inner) e = absurd (cc)
 read_has_line s t f e = refl
 
@@ -68,7 +68,7 @@ read_has_line s t f e = refl
 task_kept : (f : Statement) → is_of_tasks f ≡ true → has_line f ≡ true → is_skipped (first_word (words_of f)) ≡ false
 task_kept (RowLine bytes) t l = absurd (false≢true t)
 task_kept (NumbersLine zs) t l = absurd (false≢true t)
-task_kept (NameSeen name) t l = absurd (false≢true t)
+task_kept (NameWithoutSlot name) t l = absurd (false≢true t)
 task_kept (PairMade outer inner) t l = absurd (false≢true l)
 task_kept (CallLine layers act) t l = call_kept layers act
 task_kept f t l = refl
@@ -164,7 +164,7 @@ tests_alone s above new f o a t =
       group = same_fit above new f a ∙ t.group;
       few = ap (λ version. are_few (limits_of version) (told (f ∷ new))) a.version ∙ few_alike (limits_of (told above).version) (f ∷ above) (f ∷ new) (alike_more above new a f o) t.few;
       hook = t.hook;
-      unused = ap (λ hooks. is_used hooks (hook_on f)) a.hooks ∙ t.unused;
+      unused = ap (λ hooks. is_hook_named hooks (hook_on f)) a.hooks ∙ t.unused;
       padding = not_padded (told new).row_width f o;
     }
 

@@ -8,7 +8,7 @@ use Rattle.lw_calls.specs.declared.group.Hold.TheVariants.{Slot, All as AllLayer
 use Rattle.lw_calls.specs.declared.group.Group.{Group}
 use Rattle.lw_calls.specs.Plan.{Plan}
 use Rattle.lw_grammar.specs.declared.verb.BareVerb.TheVariants.{Refresh as RefreshVerb}
-use Rattle.lw_grammar.specs.Statements.{Act, BareAct, NumberAct, PairAct, TextAct, PutAct, EndRefreshAct, Statement, LayersLine, ScreenLine, GlyphLine, BitmapLine, RowLine, PatternLine, TaskLine, EndLine, OrderLine, NumbersLine, ReportLine, CallLine, LockLine, UnlockLine, HoldLine, ReleaseLine, NameSeen, PairMade, GzzAct, Line, StatementLine, AreaLine, GzzLine, layers_of}
+use Rattle.lw_grammar.specs.Statements.{Act, BareAct, NumberAct, PairAct, TextAct, PutAct, EndRefreshAct, Statement, LayersLine, ScreenLine, GlyphLine, BitmapLine, RowLine, PatternLine, TaskLine, EndLine, OrderLine, NumbersLine, ReportLine, CallLine, LockLine, UnlockLine, HoldLine, ReleaseLine, NameWithoutSlot, PairMade, GzzAct, Line, StatementLine, AreaLine, GzzLine, layers_of}
 use Rattle.lw_grammar.specs.Told.{Section, ScreenIsDue, AssetsAreDue, CallsAreDue, TasksAreDue, NumbersAreDue, NothingIsDue, OpenGroup, Locked, Updating, Held, NamedPair, and_names, place_among, onto_last, call_below, group_from, inner_by, gzz_lines, told, plan_of, pair_among}
 use Rattle.lw_grammar.specs.Script.{Setting, is_screen_due, are_assets_due, are_calls_due, are_tasks_due, are_numbers_due, lacks_name, parts_pair, is_beginning, is_ending, is_lock_on, is_hold}
 use Rattle.lw_grammar.specs.GoodLines.{AreGoodLines}
@@ -281,7 +281,7 @@ module _ (p : Plan) (pairs : List NamedPair) (mapped : map (pair_among p.slot_na
       }
 
   -- a name that stands alone tells nothing of tasks
-  seen_told : (ls : List Line) (name : List ℕ) → AreTold ls → AreTold (StatementLine (NameSeen name) ∷ ls)
+  seen_told : (ls : List Line) (name : List ℕ) → AreTold ls → AreTold (StatementLine (NameWithoutSlot name) ∷ ls)
   seen_told ls name r =
       record {
         done_names = r.done_names;
@@ -528,9 +528,9 @@ module _ (p : Plan) (pairs : List NamedPair) (mapped : map (pair_among p.slot_na
       let due = in_calls (told (stated ls)).section (here s (stated ls) ReleaseLine u.good).1 in
       let t = and_parts (is_hold (told (stated ls)).group) _ (tests s (stated ls) ReleaseLine u.good).group in
       inside_told (told (stated ls)).section ls ReleaseLine due (λ r. release_told s ls u.good.1 due r (releases_held (told (stated ls)).group t.0) (ltb-true _ _ t.1)) (tasks_told s ls (under_line s ReleaseLine ls u))
-  tasks_told s (StatementLine (NameSeen name) ∷ ls) u =
-      let due = in_calls (told (stated ls)).section (here s (stated ls) (NameSeen name) u.good).1 in
-      inside_told (told (stated ls)).section ls (NameSeen name) due (seen_told ls name) (tasks_told s ls (under_line s (NameSeen name) ls u))
+  tasks_told s (StatementLine (NameWithoutSlot name) ∷ ls) u =
+      let due = in_calls (told (stated ls)).section (here s (stated ls) (NameWithoutSlot name) u.good).1 in
+      inside_told (told (stated ls)).section ls (NameWithoutSlot name) due (seen_told ls name) (tasks_told s ls (under_line s (NameWithoutSlot name) ls u))
   tasks_told s (StatementLine (PairMade outer inner) ∷ ls) u = absurd (false≢true (read_has_line s (told (stated ls)) (PairMade outer inner) u.written.0.0))
 
   -- So they are those of all tasks where no task is under way.

@@ -3,7 +3,7 @@ use Rattle.std.proofs.Common.{◌≡◌, ℕ, ◌+◌, ◌==◌, Bool, true, fal
 use Rattle.std.specs.List.{list_all, flat_map, range_with_len}
 use Rattle.lw_planes.proofs.GridLaws.{map_range_same}
 use Rattle.lw_grammar.specs.declared.form.Form.TheVariants.{Plain}
-use Rattle.lw_grammar.specs.Statements.{Statement, LayersLine, ScreenLine, GlyphLine, BitmapLine, RowLine, PatternLine, TaskLine, EndLine, OrderLine, NumbersLine, ReportLine, CallLine, LockLine, UnlockLine, HoldLine, ReleaseLine, NameSeen, PairMade, GzzAct, OpenGzz, BoxGzz, FrontGzz, BehindGzz, InFrontGzz, CloseGzz, Line, StatementLine, AreaLine, GzzLine}
+use Rattle.lw_grammar.specs.Statements.{Statement, LayersLine, ScreenLine, GlyphLine, BitmapLine, RowLine, PatternLine, TaskLine, EndLine, OrderLine, NumbersLine, ReportLine, CallLine, LockLine, UnlockLine, HoldLine, ReleaseLine, NameWithoutSlot, PairMade, GzzAct, OpenGzz, BoxGzz, FrontGzz, BehindGzz, InFrontGzz, CloseGzz, Line, StatementLine, AreaLine, GzzLine}
 use Rattle.lw_grammar.specs.Told.{Section, ScreenIsDue, AssetsAreDue, CallsAreDue, TasksAreDue, NumbersAreDue, NothingIsDue, told, plan_of, NamedPair, gzz_lines, pair_among}
 use Rattle.lw_grammar.specs.Script.{Setting, are_assets_due, are_calls_due, are_tasks_due, is_nothing_due, may_end, line_read, added}
 use Rattle.lw_grammar.specs.GoodLines.{AreGoodLines}
@@ -175,8 +175,8 @@ tasks_over s (StatementLine (NumbersLine zs) ∷ ls) base g w e b k =
     tasks_over s ls base g.1 w.1 (numbers_screen (told (stated ls)).section (here s (stated ls) (NumbersLine zs) g).1) (base_below (NumbersLine zs) (stated ls) base refl b) k
 tasks_over s (StatementLine ReportLine ∷ ls) base g w e b k =
     tasks_over s ls base g.1 w.1 (report_screen s (stated ls) g) (base_below ReportLine (stated ls) base refl b) k
-tasks_over s (StatementLine (NameSeen name) ∷ ls) base g w e b k =
-    tasks_over s ls base g.1 w.1 (calls_screen (told (stated ls)).section (here s (stated ls) (NameSeen name) g).1) (base_below (NameSeen name) (stated ls) base refl b) k
+tasks_over s (StatementLine (NameWithoutSlot name) ∷ ls) base g w e b k =
+    tasks_over s ls base g.1 w.1 (calls_screen (told (stated ls)).section (here s (stated ls) (NameWithoutSlot name) g).1) (base_below (NameWithoutSlot name) (stated ls) base refl b) k
 tasks_over s (StatementLine EndLine ∷ ls) base g w e b k =
     let h = here s (stated ls) EndLine g in
     let screen = calls_screen (told (stated ls)).section h.1 in

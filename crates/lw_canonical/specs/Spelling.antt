@@ -15,7 +15,7 @@ use Rattle.lw_grammar.specs.Statements.{Box, NewLayer, Act, BareAct, NumberAct, 
 use Rattle.lw_grammar.specs.Statements.{RegClearAct, CreateAct, OpenAct, InFrontAct, BoxAct, WhichAct, FillAct, ScrollRasterAct}
 use Rattle.lw_grammar.specs.Statements.{PutAct, BlitAct, EndRefreshAct, Statement, LayersLine, ScreenLine, GlyphLine}
 use Rattle.lw_grammar.specs.Statements.{BitmapLine, RowLine, PatternLine, TaskLine, EndLine, OrderLine, NumbersLine, ReportLine}
-use Rattle.lw_grammar.specs.Statements.{CallLine, LockLine, UnlockLine, HoldLine, ReleaseLine, NameSeen, PairMade, GzzAct}
+use Rattle.lw_grammar.specs.Statements.{CallLine, LockLine, UnlockLine, HoldLine, ReleaseLine, NameWithoutSlot, PairMade, GzzAct}
 use Rattle.lw_grammar.specs.Statements.{OpenGzz, BoxGzz, FrontGzz, BehindGzz, InFrontGzz, CloseGzz, Line, StatementLine}
 use Rattle.lw_grammar.specs.Statements.{AreaLine, GzzLine}
 use Rattle.lw_calls.specs.Written.{hex_byte}
@@ -148,7 +148,7 @@ words_of (LockLine name) = codes "lock" ∷ name ∷ []
 words_of (UnlockLine name) = codes "unlock" ∷ name ∷ []
 words_of HoldLine = codes "hold" ∷ []
 words_of ReleaseLine = codes "release" ∷ []
-words_of (NameSeen name) = []
+words_of (NameWithoutSlot name) = []
 words_of (PairMade outer inner) = []
 
 -- the bytes of its line without the line feed

@@ -12,7 +12,7 @@ use Rattle.lw_grammar.specs.Tokens.{token_of}
 use Rattle.lw_grammar.specs.Verbs.{verb_word, verb_of}
 use Rattle.lw_grammar.specs.Statements.{Act, Statement, CallLine, StatementLine, line_by, is_act_in_range, is_line_in_range}
 use Rattle.lw_grammar.specs.Told.{Section, CallsAreDue, NamedPair, Told, nothing_told, and_name, place_among, onto_last, spelled_call, hook_on, told_with}
-use Rattle.lw_grammar.specs.Script.{is_skipped, is_known_in, belongs_in, lacks_name, gives_again, group_has_calls, group_allows, fits_group, are_few, is_no_hook, is_used, has_padding, is_inner, is_paired, is_placing, is_activating, parts_pair, line_tested}
+use Rattle.lw_grammar.specs.Script.{is_skipped, is_known_in, belongs_in, lacks_name, gives_again, group_has_calls, group_allows, fits_group, are_few, is_no_hook, is_hook_named, has_padding, is_inner, is_paired, is_placing, is_activating, parts_pair, line_tested}
 use Rattle.lw_canonical.specs.Spelling.{words_of, spelled}
 use Rattle.lw_canonical.proofs.PlainWords.{is_plain}
 use Rattle.lw_canonical.proofs.ReadsForward.{line_reads}
@@ -55,7 +55,7 @@ tests_pass t f pairs range bitmaps again group few hook padding =
     >>= (λ _. demand (group i) GroupReason
     >>= (λ _. demand (few i) TooMany
     >>= (λ _. demand (not (is_no_hook 0 (hook i))) NoHook
-    >>= (λ _. demand (not (is_used t.hooks_named (hook i))) HookUsed
+    >>= (λ _. demand (not (is_hook_named t.names_hook (hook i))) HookUsed
     >>= (λ _. demand (not (padding i)) Padding))))))))
 
 -- There are few of everything.

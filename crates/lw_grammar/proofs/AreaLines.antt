@@ -7,7 +7,7 @@ use Rattle.lw_area.specs.Polygons.{is_in_range}
 use Rattle.lw_area.specs.Areas.{area_rectangles}
 use Rattle.lw_calls.specs.declared.limits.Limits.{Limits}
 use Rattle.lw_calls.specs.Limits.{limits_of, rect_fits}
-use Rattle.lw_grammar.specs.Statements.{FillAct, Statement, CallLine, LockLine, UnlockLine, NameSeen, AreaLine}
+use Rattle.lw_grammar.specs.Statements.{FillAct, Statement, CallLine, LockLine, UnlockLine, NameWithoutSlot, AreaLine}
 use Rattle.lw_grammar.specs.Told.{OpenGroup, Locked, Updating, Held, Told, area_words, fill_lines, area_lines, stands_for, told_with, told, told_all}
 use Rattle.lw_grammar.specs.Script.{Setting, are_calls_due, lacks_pattern, group_allows, allows_area, is_lock_on, are_few, area_tested, added}
 use Rattle.lw_grammar.specs.GoodLines.{IsGoodLine, AreGoodLines}
@@ -147,11 +147,11 @@ module _ (s : Setting) (layer : List ℕ) where
       record { here = (rows, calls, tt, refl); tested = tests_pass s new (UnlockLine layer) tested }
 
   -- so is a name alone
-  seen_good : (above : List Statement) → ((told above).rows_due == 0) ≡ true → are_calls_due (told above).section ≡ true → AreCounted (limits_of (told above).version) (told (NameSeen layer ∷ above)) → IsGoodLine s above (NameSeen layer)
+  seen_good : (above : List Statement) → ((told above).rows_due == 0) ≡ true → are_calls_due (told above).section ≡ true → AreCounted (limits_of (told above).version) (told (NameWithoutSlot layer ∷ above)) → IsGoodLine s above (NameWithoutSlot layer)
   seen_good above rows calls few =
-      let tested : IsStatementTested s above (NameSeen layer) =
+      let tested : IsStatementTested s above (NameWithoutSlot layer) =
       record { range = refl; named = refl; new = refl; group = refl; few = counted_few _ _ few; hook = refl; unused = refl; padding = refl } in
-      record { here = (rows, calls, tt, refl); tested = tests_pass s above (NameSeen layer) tested }
+      record { here = (rows, calls, tt, refl); tested = tests_pass s above (NameWithoutSlot layer) tested }
 
   -- fills that are a group of their own
   group_good : (above : List Statement) (r : Rectangle) (rs : List Rectangle) → ((told above).rows_due == 0) ≡ true → are_calls_due (told above).section ≡ true → (told above).group ≡ None → list_all rect_fits (r ∷ rs) ≡ true → AreCounted (limits_of (told above).version) (told_all (area_lines None layer (r ∷ rs)) (told above)) → AreGoodLines s above → AreGoodLines s (added (area_lines None layer (r ∷ rs)) above)

@@ -10,8 +10,8 @@ use Rattle.lw_calls.specs.Kinds.{is_super}
 use Rattle.lw_calls.proofs.LimitLaws.{screen_at_most}
 use Rattle.lw_grammar.specs.declared.verb.BareVerb.TheVariants.{Close as CloseVerb, Front as FrontVerb, Behind as BehindVerb}
 use Rattle.lw_grammar.specs.Statements.{Act, BareAct, OpenAct, InFrontAct, BoxAct, layers_of, Statement, CallLine, HoldLine, ReleaseLine, PairMade, GzzAct, OpenGzz, BoxGzz, FrontGzz, BehindGzz, InFrontGzz, CloseGzz, GzzLine, new_without_bitmap, is_act_in_range, box_fits, is_gzz_box, is_gzz_in_range, Box}
-use Rattle.lw_grammar.specs.Told.{OpenGroup, Held, Told, makes_super, hook_on, left_open_by, began_by, inner_box, gzz_calls, inner_by, stands_for, told_with, told, told_all}
-use Rattle.lw_grammar.specs.Script.{Setting, are_calls_due, lacks_name, is_on_all, group_allows, lacks_pair, names_again, comes_between, is_hold, is_no_hook, is_used, are_few, gzz_tested, added}
+use Rattle.lw_grammar.specs.Told.{OpenGroup, Held, Told, makes_super, hook_on, left_open_by, calls_before_by, inner_box, gzz_calls, inner_by, stands_for, told_with, told, told_all}
+use Rattle.lw_grammar.specs.Script.{Setting, are_calls_due, lacks_name, is_on_all, group_allows, lacks_pair, names_again, comes_between, is_hold, is_no_hook, is_hook_named, are_few, gzz_tested, added}
 use Rattle.lw_grammar.specs.GoodLines.{is_known_act, IsActMade, IsGoodLine, AreGoodLines}
 use Rattle.lw_grammar.proofs.ScriptNames.{names_grow}
 use Rattle.lw_grammar.proofs.ScriptStatements.{IsGzzMade, IsGzzHere}
@@ -67,7 +67,7 @@ pub record IsHeldCall (layers : List (List ℕ)) (act : Act) : Type 0 where
   pub known : (version : ℕ) → is_known_act version act ≡ true
   pub hook : hook_on (CallLine layers act) ≡ None
   pub open_ : (o : Option OpenGroup) → left_open_by layers act o ≡ o
-  pub begun : (m n : ℕ) → began_by act m n ≡ n
+  pub begun : (m n : ℕ) → calls_before_by act m n ≡ n
 
 -- each of these is one
 abbrev pub AreHeldCalls : List Statement → Type 0
@@ -179,7 +179,7 @@ module _ (s : Setting) where
   held_good new layers act m h few =
       let P : Option OpenGroup → Type 0 = λ o. group_allows o layers act ≡ true in
       let Q : Option ℤ → Type 0 = λ o. is_no_hook s.hooks o ≡ false in
-      let R : Option ℤ → Type 0 = λ o. is_used (told new).hooks_named o ≡ false in
+      let R : Option ℤ → Type 0 = λ o. is_hook_named (told new).names_hook o ≡ false in
       let tested : IsStatementTested s new (CallLine layers act) =
       record { range = h.range; named = h.named (told new).bitmap_names; new = refl; group = subst P (sym m.group) h.all; few = counted_few _ _ few; hook = subst Q (sym h.hook) refl; unused = subst R (sym h.hook) refl; padding = refl } in
       record { here = (m.rows, m.calls, (h.long, h.made), h.known (told new).version); tested = tests_pass s new (CallLine layers act) tested }

@@ -13,7 +13,7 @@ use Rattle.lw_calls.specs.Limits.{limits_of, task_limit, bitmap_limit}
 use Rattle.lw_grammar.specs.Demands.{◌>>=◌, demand}
 use Rattle.lw_grammar.specs.Statements.{Statement, LayersLine, ScreenLine, GlyphLine, BitmapLine, RowLine, TaskLine, EndLine, OrderLine, NumbersLine, ReportLine, CallLine, LockLine, UnlockLine, version_at_screen, are_sizes_in_range, bitmap_size_limit, is_line_in_range}
 use Rattle.lw_grammar.specs.Told.{Section, ScreenIsDue, AssetsAreDue, CallsAreDue, TasksAreDue, NumbersAreDue, NothingIsDue, Told, hook_on, told}
-use Rattle.lw_grammar.specs.Script.{Setting, is_screen_due, are_assets_due, are_calls_due, are_tasks_due, are_numbers_due, is_nothing_due, lacks_name, gives_again, fits_group, pattern_limit, super_limit, are_few, is_no_hook, is_used, has_padding, statement_tested, may_end}
+use Rattle.lw_grammar.specs.Script.{Setting, is_screen_due, are_assets_due, are_calls_due, are_tasks_due, are_numbers_due, is_nothing_due, lacks_name, gives_again, fits_group, pattern_limit, super_limit, are_few, is_no_hook, is_hook_named, has_padding, statement_tested, may_end}
 use Rattle.lw_grammar.specs.GoodLines.{IsStatementHere, AreGoodLines}
 use Rattle.lw_grammar.proofs.ScriptCalls.{in_range, size_range}
 use Rattle.std.proofs.lemmas.Bool.{true≢false, false≢true, not-true, not_from_false, eqb-true, ne_eqb, leb-true, le-leb, lt-ltb, and_parts, and_from}
@@ -27,7 +27,7 @@ pub record IsStatementTested (s : Setting) (above : List Statement) (f : Stateme
   pub group : fits_group (told above).group (nat_lt (told above).calls_before_group (told above).calls_in_task) f ≡ true
   pub few : are_few (limits_of (told above).version) (told (f ∷ above)) ≡ true
   pub hook : is_no_hook s.hooks (hook_on f) ≡ false
-  pub unused : is_used (told above).hooks_named (hook_on f) ≡ false
+  pub unused : is_hook_named (told above).names_hook (hook_on f) ≡ false
   pub padding : has_padding (told above).row_width f ≡ false
 
 -- a test that was passed holds, and those after it were passed
@@ -49,7 +49,7 @@ tests_passed s above f h =
     let d = passed (fits_group (told above).group (nat_lt (told above).calls_before_group (told above).calls_in_task) f) _ _ c.1 in
     let e = passed (are_few (limits_of (told above).version) (told (f ∷ above))) _ _ d.1 in
     let g = passed (not (is_no_hook s.hooks (hook_on f))) _ _ e.1 in
-    let i = passed (not (is_used (told above).hooks_named (hook_on f))) _ _ g.1 in
+    let i = passed (not (is_hook_named (told above).names_hook (hook_on f))) _ _ g.1 in
     let j = passed_last (not (has_padding (told above).row_width f)) _ i.1 in
     record {
       range = a.0;

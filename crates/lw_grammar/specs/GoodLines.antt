@@ -20,17 +20,17 @@ use Rattle.lw_grammar.specs.Script.{Setting, are_calls_due, are_numbers_due, is_
 -- task and the statements for which no line stands alone belong where calls are due. A row and numbers of an order have no verb,
 -- and belong nowhere by this.
 abbrev pub belongs_at : Form → ℕ → Section → Statement → Bool
-belongs_at form version s LayersLine = belongs_in form version s (Part LayersVerb)
-belongs_at form version s (ScreenLine w h d) = belongs_in form version s (Part ScreenVerb)
-belongs_at form version s (GlyphLine code rows) = belongs_in form version s (Part GlyphVerb)
-belongs_at form version s (BitmapLine name w h d) = belongs_in form version s (Part BitmapVerb)
-belongs_at form version s (RowLine bytes) = false
-belongs_at form version s (PatternLine name words) = belongs_in form version s (Part PatternVerb)
-belongs_at form version s (TaskLine name) = belongs_in form version s (Part TaskVerb)
-belongs_at form version s OrderLine = belongs_in form version s (Part OrderVerb)
-belongs_at form version s (NumbersLine zs) = false
-belongs_at form version s ReportLine = belongs_in form version s (Part ReportVerb)
-belongs_at form version s f = are_calls_due s
+belongs_at form version section LayersLine = belongs_in form version section (Part LayersVerb)
+belongs_at form version section (ScreenLine w h d) = belongs_in form version section (Part ScreenVerb)
+belongs_at form version section (GlyphLine code rows) = belongs_in form version section (Part GlyphVerb)
+belongs_at form version section (BitmapLine name w h d) = belongs_in form version section (Part BitmapVerb)
+belongs_at form version section (RowLine bytes) = false
+belongs_at form version section (PatternLine name words) = belongs_in form version section (Part PatternVerb)
+belongs_at form version section (TaskLine name) = belongs_in form version section (Part TaskVerb)
+belongs_at form version section OrderLine = belongs_in form version section (Part OrderVerb)
+belongs_at form version section (NumbersLine zs) = false
+belongs_at form version section ReportLine = belongs_in form version section (Part ReportVerb)
+belongs_at form version section statement = are_calls_due section
 
 -- Some line has this act, or this statement, where the lines above tell this version.
 abbrev pub is_known_act : ℕ → Act → Bool
@@ -73,15 +73,15 @@ IsStatementHere s above (RowLine bytes) =
     (((told above).rows_due == 0) ≡ false) × (length bytes ≡ row_bytes (told above).row_width) × AreBytes bytes
 IsStatementHere s above (NumbersLine zs) =
     (((told above).rows_due == 0) ≡ true) × (are_numbers_due (told above).section ≡ true) × (length zs ≤ numbers_limit)
-IsStatementHere s above f =
-    (((told above).rows_due == 0) ≡ true) × (belongs_at s.form (told above).version (told above).section f ≡ true)
-    × IsStatementMade f × (is_known_line (told above).version f ≡ true)
+IsStatementHere s above statement =
+    (((told above).rows_due == 0) ≡ true) × (belongs_at s.form (told above).version (told above).section statement ≡ true)
+    × IsStatementMade statement × (is_known_line (told above).version statement ≡ true)
 
 -- It stands here, and no further reason holds for it: the statement of a line that was good, or one that such a line stands for.
-pub record IsGoodLine (s : Setting) (above : List Statement) (f : Statement) : Type 0 where
-  pub here : IsStatementHere s above f
-  pub tested : statement_tested s (told above) f ≡ Ok tt
+pub record IsGoodLine (s : Setting) (above : List Statement) (statement : Statement) : Type 0 where
+  pub here : IsStatementHere s above statement
+  pub tested : statement_tested s (told above) statement ≡ Ok tt
 
 abbrev pub AreGoodLines : Setting → List Statement → Type 0
 AreGoodLines s [] = Unit {0}
-AreGoodLines s (f ∷ above) = IsGoodLine s above f × AreGoodLines s above
+AreGoodLines s (statement ∷ above) = IsGoodLine s above statement × AreGoodLines s above

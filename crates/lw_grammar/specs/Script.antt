@@ -85,7 +85,7 @@ abbrev pub is_nothing_due : Section → Bool
 is_nothing_due NothingIsDue = true
 is_nothing_due _ = false
 
--- the input is this one
+-- the input has an order; a report
 abbrev pub is_ordered : Form → Bool
 is_ordered Plain = false
 is_ordered Ordered = true
@@ -109,15 +109,15 @@ is_known_in version verb = true
 
 -- Lines with this verb belong in this section of this input, where the lines above tell this version.
 abbrev pub belongs_in : Form → ℕ → Section → Verb → Bool
-belongs_in form version s (Part LayersVerb) = is_screen_due s && (version == 0)
-belongs_in form version s (Part ScreenVerb) = is_screen_due s
-belongs_in form version s (Part GlyphVerb) = are_assets_due s
-belongs_in form version s (Part BitmapVerb) = are_assets_due s
-belongs_in form version s (Part PatternVerb) = are_assets_due s
-belongs_in form version s (Part TaskVerb) = are_assets_due s || are_tasks_due s
-belongs_in form version s (Part OrderVerb) = are_tasks_due s && is_ordered form
-belongs_in form version s (Part ReportVerb) = are_tasks_due s && is_audited form
-belongs_in form version s verb = are_calls_due s
+belongs_in form version section (Part LayersVerb) = is_screen_due section && (version == 0)
+belongs_in form version section (Part ScreenVerb) = is_screen_due section
+belongs_in form version section (Part GlyphVerb) = are_assets_due section
+belongs_in form version section (Part BitmapVerb) = are_assets_due section
+belongs_in form version section (Part PatternVerb) = are_assets_due section
+belongs_in form version section (Part TaskVerb) = are_assets_due section || are_tasks_due section
+belongs_in form version section (Part OrderVerb) = are_tasks_due section && is_ordered form
+belongs_in form version section (Part ReportVerb) = are_tasks_due section && is_audited form
+belongs_in form version section verb = are_calls_due section
 
 -- the verb of a line's words
 abbrev pub verb_on : List (List ℕ) → Option Verb
@@ -141,7 +141,7 @@ lacks_pattern names (Some name) = not (list_any (bytes_eq name) names)
 
 -- the line gives a bitmap, a pattern, a task or a code that a line above gave
 abbrev pub gives_again : Told → Statement → Bool
-gives_again t (GlyphLine code rows) = t.glyph_codes code
+gives_again t (GlyphLine code rows) = t.has_glyph code
 gives_again t (BitmapLine name w h d) = list_any (bytes_eq name) t.bitmap_names
 gives_again t (PatternLine name words) = list_any (bytes_eq name) t.pattern_names
 gives_again t (TaskLine name) = list_any (bytes_eq name) t.tasks
@@ -196,7 +196,7 @@ names_again t g (OpenGzz inner kind place at classes title) =
     (stands_above t g || stands_above t inner) || bytes_eq g inner
 names_again t g act = false
 
--- such a window would come between the two layers of one
+-- a window of two layers would come between the two layers of another
 abbrev pub comes_between : List NamedPair → GzzAct → Bool
 comes_between pairs (InFrontGzz m) = is_outer pairs m
 comes_between pairs act = false
@@ -289,10 +289,10 @@ abbrev pub is_no_hook : ℕ → Option ℤ → Bool
 is_no_hook hooks None = false
 is_no_hook hooks (Some n) = not (nat_lt (unsigned_abs n) hooks)
 
--- there is a hook's number, and it is among the used ones
-abbrev pub is_used : (ℕ → Bool) → Option ℤ → Bool
-is_used hooks_named None = false
-is_used hooks_named (Some n) = hooks_named (unsigned_abs n)
+-- there is a hook's number, and a line above names that hook
+abbrev pub is_hook_named : (ℕ → Bool) → Option ℤ → Bool
+is_hook_named names_hook None = false
+is_hook_named names_hook (Some n) = names_hook (unsigned_abs n)
 
 -- a bit of a row after this width is 1
 abbrev pub has_padding : ℕ → Statement → Bool
@@ -317,7 +317,7 @@ verb_read form version section ws = do
 
 -- a statement that is found is what its line says
 abbrev pub stated : Option Statement → Option Line
-stated o = option_map (λ f. StatementLine f) o
+stated o = option_map (λ statement. StatementLine statement) o
 
 -- What a line of these words says: where so many rows of a bitmap of this width are due, a row; where numbers are due, numbers;
 -- and else a line with a verb.
@@ -331,18 +331,18 @@ line_made form version section due width ws =
 
 -- The first reason for which a line with this statement is bad, if it is bad, where it would part a window of two layers, or not.
 abbrev pub tested_with : Setting → Told → Bool → Statement → Result (Unit {0}) Reason
-tested_with s t parts statement = do
+tested_with s t would_part statement = do
   _ ← demand (is_line_in_range t.version statement) Range
   _ ← demand (not (lacks_name t.bitmap_names statement)) NoName
   _ ← demand (not (gives_again t statement)) DoubleName
-  _ ← demand (not parts) GzzReason
+  _ ← demand (not would_part) GzzReason
   _ ← demand (fits_group t.group (group_has_calls t) statement) Group
   _ ← demand (are_few (limits_of t.version) (told_with statement t)) TooMany
   _ ← demand (not (is_no_hook s.hooks (hook_on statement))) NoHook
-  _ ← demand (not (is_used t.hooks_named (hook_on statement))) HookUsed
+  _ ← demand (not (is_hook_named t.names_hook (hook_on statement))) HookUsed
   demand (not (has_padding t.row_width statement)) Padding
 
--- The first reason for which a line with this statement is bad, where it isn't asked whether it would part such a window.
+-- The first reason for which such a line is bad, where it isn't asked whether it would part a window of two layers.
 abbrev pub statement_tested : Setting → Told → Statement → Result (Unit {0}) Reason
 statement_tested s t statement = tested_with s t false statement
 
@@ -368,7 +368,7 @@ gzz_tested t g act = do
 
 -- The first reason for which a line that says this is bad.
 abbrev pub line_tested : Setting → Told → Line → Result (Unit {0}) Reason
-line_tested s t (StatementLine f) = tested_with s t (parts_pair t.pairs f) f
+line_tested s t (StatementLine statement) = tested_with s t (parts_pair t.pairs statement) statement
 line_tested s t (AreaLine layer pattern points) = area_tested t layer pattern points
 line_tested s t (GzzLine g act) = gzz_tested t g act
 
@@ -386,7 +386,7 @@ line_read s t bytes = words_read bytes >>= line_of_words s t
 -- the statements with further ones below them, the first one first
 abbrev pub added : List Statement → List Statement → List Statement
 added [] above = above
-added (f ∷ fs) above = added fs (f ∷ above)
+added (statement ∷ more) above = added more (statement ∷ above)
 
 -- the statements of lines with those that a further line stands for, unless it is skipped; or its first reason
 abbrev pub statements_with : Setting → List Statement → List ℕ → Result (List Statement) Reason

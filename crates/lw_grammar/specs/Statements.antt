@@ -107,7 +107,7 @@ pub data Statement : Type 0 where
   UnlockLine : List ℕ → Statement
   HoldLine : Statement
   ReleaseLine : Statement
-  NameSeen : List ℕ → Statement
+  NameWithoutSlot : List ℕ → Statement
   PairMade : List ℕ → List ℕ → Statement
 
 -- What a line does with a window of two layers: it opens one, whose inner layer has this name and is of this kind, with a place,
@@ -207,8 +207,8 @@ numbers_line ts = if nat_le (length ts) numbers_limit then option_map (λ zs. Nu
 
 -- a verb with a name, as task NAME
 abbrev pub name_line : (List ℕ → Statement) → List Token → Option Statement
-name_line f (NameToken n ∷ []) = Some (f n)
-name_line f _ = None
+name_line make (NameToken n ∷ []) = Some (make n)
+name_line make _ = None
 
 -- a verb alone, as end
 abbrev pub alone_line : Statement → List Token → Option Statement
@@ -441,10 +441,10 @@ open_kind l place at ts SuperBitmap = open_super l place at ts
 abbrev pub new_layer_line
     : {A : Type 0} → (ℤ → ℤ → ℤ → ℤ → A) → (List ℕ → Place → A → List Token → Kind → Option Statement)
     → List Token → Option Statement
-new_layer_line make rest (NameToken l ∷ NameToken k ∷ NameToken p ∷ ts) =
-    option_and_then (λ n. option_and_then (λ place. option_and_then (rest l place n.0 n.1) (kind_of k)) (place_of p))
+new_layer_line make ending (NameToken l ∷ NameToken k ∷ NameToken p ∷ ts) =
+    option_and_then (λ n. option_and_then (λ place. option_and_then (ending l place n.0 n.1) (kind_of k)) (place_of p))
     (four_numbers make ts)
-new_layer_line make rest _ = None
+new_layer_line make ending _ = None
 
 -- a point by its column and its row
 abbrev pub point : ℤ → ℤ → Point
@@ -545,7 +545,7 @@ abbrev pub line_by : Verb → List Token → Option Line
 line_by AreaVerb ts = area_line ts
 line_by AreaPatternVerb ts = area_pattern_line ts
 line_by (Gzz verb) ts = gzz_line verb ts
-line_by verb ts = option_map (λ f. StatementLine f) (statement_by verb ts)
+line_by verb ts = option_map (λ statement. StatementLine statement) (statement_by verb ts)
 
 -- a hook's number has 32 bits
 abbrev pub greatest_hook : ℕ

@@ -40,7 +40,7 @@ use Rattle.lw_grammar.specs.Statements.{NewLayer, Act, BareAct, NumberAct, PairA
 use Rattle.lw_grammar.specs.Statements.{RegClearAct, CreateAct, OpenAct, InFrontAct, BoxAct, WhichAct, FillAct, ScrollRasterAct}
 use Rattle.lw_grammar.specs.Statements.{PutAct, BlitAct, EndRefreshAct, Statement, LayersLine, ScreenLine, GlyphLine}
 use Rattle.lw_grammar.specs.Statements.{BitmapLine, RowLine, PatternLine, TaskLine, EndLine, OrderLine, NumbersLine, ReportLine}
-use Rattle.lw_grammar.specs.Statements.{CallLine, LockLine, UnlockLine, HoldLine, ReleaseLine, NameSeen, PairMade, GzzAct}
+use Rattle.lw_grammar.specs.Statements.{CallLine, LockLine, UnlockLine, HoldLine, ReleaseLine, NameWithoutSlot, PairMade, GzzAct}
 use Rattle.lw_grammar.specs.Statements.{OpenGzz, BoxGzz, FrontGzz, BehindGzz, InFrontGzz, CloseGzz, Line, StatementLine}
 use Rattle.lw_grammar.specs.Statements.{AreaLine, GzzLine, Box, box, new_without_bitmap, version_at_screen}
 
@@ -79,7 +79,7 @@ pub record Told : Type 0 where
   pub width : ℕ
   pub height : ℕ
   pub depth : ℕ
-  pub glyph_codes : ℕ → Bool
+  pub has_glyph : ℕ → Bool
   pub glyphs : ℕ → List ℕ
   pub bitmap_names : List (List ℕ)
   pub bitmaps : List ℕ → List Bitmap
@@ -92,7 +92,7 @@ pub record Told : Type 0 where
   pub names_without_slot : List (List ℕ)
   pub pairs : List NamedPair
   pub supers : ℕ
-  pub hooks_named : ℕ → Bool
+  pub names_hook : ℕ → Bool
   pub group : Option OpenGroup
   pub calls_before_group : ℕ
   pub calls_in_task : ℕ
@@ -109,7 +109,7 @@ nothing_told =
       width = 0;
       height = 0;
       depth = 0;
-      glyph_codes = λ code. false;
+      has_glyph = λ code. false;
       glyphs = λ code. replicate 8 0;
       bitmap_names = [];
       bitmaps = λ rows. [];
@@ -122,7 +122,7 @@ nothing_told =
       names_without_slot = [];
       pairs = [];
       supers = 0;
-      hooks_named = λ hook. false;
+      names_hook = λ hook. false;
       group = None;
       calls_before_group = 0;
       calls_in_task = 0;
@@ -247,8 +247,8 @@ hook_on statement = None
 
 -- which hooks are named, with a further one
 abbrev pub and_hook : Option ℤ → (ℕ → Bool) → ℕ → Bool
-and_hook None hooks_named = hooks_named
-and_hook (Some n) hooks_named = λ hook. (unsigned_abs n == hook) || hooks_named hook
+and_hook None names_hook = names_hook
+and_hook (Some n) names_hook = λ hook. (unsigned_abs n == hook) || names_hook hook
 
 -- the group that is open after an act, and how many calls stand before it in its task
 abbrev pub left_open_by : List (List ℕ) → Act → Option OpenGroup → Option OpenGroup
@@ -256,9 +256,9 @@ left_open_by (l ∷ []) (BareAct RefreshVerb) group = Some (Updating l)
 left_open_by layers (EndRefreshAct full) group = None
 left_open_by layers act group = group
 
-abbrev pub began_by : Act → ℕ → ℕ → ℕ
-began_by (BareAct RefreshVerb) calls_in_task calls_before_group = calls_in_task
-began_by act calls_in_task calls_before_group = calls_before_group
+abbrev pub calls_before_by : Act → ℕ → ℕ → ℕ
+calls_before_by (BareAct RefreshVerb) calls_in_task calls_before_group = calls_in_task
+calls_before_by act calls_in_task calls_before_group = calls_before_group
 
 -- the group that ends with the last of so many calls of its task
 abbrev pub group_from : Told → Hold → ℕ → Group
@@ -281,7 +281,7 @@ told_with (ScreenLine w h d) t =
       depth = unsigned_abs d;
     }
 told_with (GlyphLine code rows) t =
-    record t { glyph_codes = λ c. (code == c) || t.glyph_codes c; glyphs = λ c. if code == c then rows else t.glyphs c }
+    record t { has_glyph = λ c. (code == c) || t.has_glyph c; glyphs = λ c. if code == c then rows else t.glyphs c }
 told_with (BitmapLine name w h d) t =
     record t {
       bitmap_names = t.bitmap_names ++ name ∷ [];
@@ -308,9 +308,9 @@ told_with (CallLine layers act) t =
     record t {
       names = and_names t.names layers;
       supers = (if makes_super (CallLine layers act) then 1 else 0) + t.supers;
-      hooks_named = and_hook (hook_on (CallLine layers act)) t.hooks_named;
+      names_hook = and_hook (hook_on (CallLine layers act)) t.names_hook;
       group = left_open_by layers act t.group;
-      calls_before_group = began_by act t.calls_in_task t.calls_before_group;
+      calls_before_group = calls_before_by act t.calls_in_task t.calls_before_group;
       calls_in_task = t.calls_in_task + 1;
       calls = onto_last (call_below t layers act) t.calls;
       groups = ended_by layers act t;
@@ -325,7 +325,7 @@ told_with (UnlockLine name) t =
     }
 told_with HoldLine t = record t { group = Some Held; calls_before_group = t.calls_in_task }
 told_with ReleaseLine t = record t { group = None; groups = onto_last (group_from t All t.calls_in_task) t.groups }
-told_with (NameSeen name) t = record t { names_without_slot = and_name t.names_without_slot name }
+told_with (NameWithoutSlot name) t = record t { names_without_slot = and_name t.names_without_slot name }
 told_with (PairMade outer inner) t = record t { pairs = t.pairs ++ record { outer = outer; inner = inner } ∷ [] }
 
 -- What lines with these statements tell, the nearest first.
@@ -345,7 +345,7 @@ fill_lines layer rects = map (λ r. CallLine (layer ∷ []) (FillAct r)) rects
 -- The statements that an area of these rectangles stands for: its fills, which in no group are a lock group of their own. Without
 -- a rectangle there is no group either, and the layer's name alone stands on the line.
 abbrev pub area_lines : Option OpenGroup → List ℕ → List Rectangle → List Statement
-area_lines group layer [] = NameSeen layer ∷ []
+area_lines group layer [] = NameWithoutSlot layer ∷ []
 area_lines None layer (r ∷ rs) = LockLine layer ∷ fill_lines layer (r ∷ rs) ++ UnlockLine layer ∷ []
 area_lines (Some group) layer (r ∷ rs) = fill_lines layer (r ∷ rs)
 
@@ -389,14 +389,14 @@ gzz_lines pairs g act = HoldLine ∷ gzz_calls g (inner_by pairs g act) act ++ R
 -- The statements that a line stands for below lines that tell this, the first one first. It tells what these tell, one after
 -- another.
 abbrev pub stands_for : Told → Line → List Statement
-stands_for t (StatementLine f) = f ∷ []
+stands_for t (StatementLine statement) = statement ∷ []
 stands_for t (AreaLine layer pattern points) = area_lines t.group layer (area_rectangles points (area_words t pattern))
 stands_for t (GzzLine g act) = gzz_lines t.pairs g act
 
 -- what lines tell with further statements below them, the first one first
 abbrev pub told_all : List Statement → Told → Told
 told_all [] t = t
-told_all (f ∷ fs) t = told_all fs (told_with f t)
+told_all (statement ∷ more) t = told_all more (told_with statement t)
 
 -- a window of two layers by their slots, which are the places of their names
 abbrev pub pair_among : List (List ℕ) → NamedPair → Pair

@@ -25,7 +25,7 @@ known r =
       section = section_meaning r.section;
       width = r.width;
       height = r.height;
-      glyph_codes = λ code. get_or r.assets.glyph_codes code false;
+      has_glyph = λ code. get_or r.assets.has_glyph code false;
       bitmap_names = targets r.assets.names.keys;
       row_width = r.assets.width;
       rows_due = r.assets.due;
@@ -36,7 +36,7 @@ known r =
       names_without_slot = targets r.tasks.names_without_slot.keys;
       pairs = map pair_meaning r.tasks.pairs.items;
       supers = r.tasks.supers;
-      hooks_named = λ n. list_any (λ m. n == m) r.tasks.hooks_named.keys;
+      names_hook = λ n. list_any (λ m. n == m) r.tasks.hooks_named.keys;
       group = option_map group_meaning r.tasks.group;
       calls_before_group = r.tasks.calls_before_group;
       calls_in_task = r.tasks.calls_in_task;

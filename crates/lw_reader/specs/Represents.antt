@@ -28,7 +28,7 @@ pub record IsBitmapBegun (a : AssetsRead) : Type 0 where
 
 -- glyphs, bitmaps and patterns
 pub record AssetsRepresent (a : AssetsRead) (above : List Statement) : Type 0 where
-  pub glyph_codes : (code : ℕ) → get_or a.glyph_codes code false ≡ (told above).glyph_codes code
+  pub has_glyph : (code : ℕ) → get_or a.has_glyph code false ≡ (told above).has_glyph code
   pub glyphs : (i : ℕ) → i < 95 → get_or a.glyphs i [] ≡ (told above).glyphs (32 + i)
   pub names : targets a.names.keys ≡ (told above).bitmap_names
   pub width : a.width ≡ (told above).row_width
@@ -46,7 +46,7 @@ pub record TasksRepresent (t : TasksRead) (above : List Statement) : Type 0 wher
   pub names_without_slot : targets t.names_without_slot.keys ≡ (told above).names_without_slot
   pub pairs : map pair_meaning t.pairs.items ≡ (told above).pairs
   pub supers : t.supers ≡ (told above).supers
-  pub hooks_named : (n : ℕ) → list_any (λ m. n == m) t.hooks_named.keys ≡ (told above).hooks_named n
+  pub names_hook : (n : ℕ) → list_any (λ m. n == m) t.hooks_named.keys ≡ (told above).names_hook n
   pub group : option_map group_meaning t.group ≡ (told above).group
   pub calls_before_group : t.calls_before_group ≡ (told above).calls_before_group
   pub calls_in_task : t.calls_in_task ≡ (told above).calls_in_task

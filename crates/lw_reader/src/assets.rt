@@ -47,7 +47,7 @@ impl<'a> AssetsRead<'a> {
         ensures { (above : List StatementValue) → AssetsRepresent self.old above
             → AssetsRepresent self.new (GlyphLine code (decoded digits.now.digits.now) ∷ above) }
     {
-        self.glyph_codes[code as usize] = true;
+        self.has_glyph[code as usize] = true;
         self.glyphs[code as usize - 32] = glyph_of(digits);
     }
 

@@ -16,7 +16,7 @@ use std::alloc::Global;
 #[derive(Drop)]
 pub struct AssetsRead<'a> {
     /// Which codes have a glyph.
-    pub glyph_codes: [bool; 256],
+    pub has_glyph: [bool; 256],
     pub glyphs: [[u8; 8]; 95],
     /// The bitmaps' names, by number.
     pub names: IndexSet<&'a [u8]>,
@@ -101,7 +101,7 @@ impl<'a> Reader<'a> {
             height: 0,
             depth: 0,
             assets: AssetsRead {
-                glyph_codes: [false; 256],
+                has_glyph: [false; 256],
                 glyphs: [[0; 8]; 95],
                 names: IndexSet::new(alloc),
                 bitmaps: Vec::new(alloc),

@@ -3,7 +3,7 @@ ghost use Rattle.std.specs.Prelude.{Bool, ◌≡◌, ℕ, ◌+◌, ◌<◌, ◌�
 ghost use Rattle.std.specs.Prelude.{map, option_map, bytes_eq};
 ghost use Rattle.std.specs.List.{list_any};
 ghost use Rattle.lw_grammar.specs.Statements.{Statement as StatementValue, TaskLine, LockLine, UnlockLine, HoldLine};
-ghost use Rattle.lw_grammar.specs.Statements.{ReleaseLine, NameSeen, PairMade, CallLine, layers_of, is_hook_number};
+ghost use Rattle.lw_grammar.specs.Statements.{ReleaseLine, NameWithoutSlot, PairMade, CallLine, layers_of, is_hook_number};
 ghost use Rattle.lw_grammar.specs.Statements.{is_act_in_range};
 ghost use Rattle.lw_grammar.specs.Told.{and_name, and_names, place_among, onto_last, makes_super, and_hook, left_open_by, told};
 ghost use Rattle.lw_grammar.specs.Script.{is_ending};
@@ -198,9 +198,9 @@ impl<'a> TasksRead<'a> {
     }
 
     /// Adds a name that stands on a line without a call.
-    pub fn add_seen(&mut self, name: &'a [u8]) -> Result<(), AllocError>
+    pub fn add_name_without_slot(&mut self, name: &'a [u8]) -> Result<(), AllocError>
         ensures { (above : List StatementValue) → TasksRepresent self.old above
-            → OnOk result (TasksRepresent self.new (NameSeen name.entry.now ∷ above)) }
+            → OnOk result (TasksRepresent self.new (NameWithoutSlot name.entry.now ∷ above)) }
     {
         self.names_without_slot.insert(name)?;
         Ok(())

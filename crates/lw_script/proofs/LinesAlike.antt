@@ -5,7 +5,7 @@ use Rattle.lw_area.specs.declared.point.Point.{Point}
 use Rattle.lw_area.specs.Polygons.{is_in_range}
 use Rattle.lw_calls.specs.Limits.{limits_of}
 use Rattle.lw_grammar.specs.Told.{Told, and_name, and_names, makes_super, hook_on, area_words, area_lines, gzz_lines, stands_for, told_with, told, told_all}
-use Rattle.lw_grammar.specs.Script.{Setting, lacks_name, lacks_pattern, gives_again, allows_area, are_few, is_no_hook, is_used, has_padding, parts_pair, stands_above, lacks_pair, names_again, comes_between, words_read, line_made, tested_with, area_tested, gzz_tested, line_tested, line_read}
+use Rattle.lw_grammar.specs.Script.{Setting, lacks_name, lacks_pattern, gives_again, allows_area, are_few, is_no_hook, is_hook_named, has_padding, parts_pair, stands_above, lacks_pair, names_again, comes_between, words_read, line_made, tested_with, area_tested, gzz_tested, line_tested, line_read}
 use Rattle.lw_grammar.specs.declared.reason.Reason.{Reason}
 use Rattle.lw_grammar.specs.declared.reason.Reason.TheVariants.{Range, NoName, DoubleName, Gzz as GzzReason, Group, TooMany, NoHook, HookUsed, Padding}
 use Rattle.lw_grammar.specs.Demands.{◌>>=◌, demand}
@@ -72,16 +72,16 @@ few_alike m n t u e k = rw (e, k.tasks, k.bitmaps, k.patterns, k.names, k.supers
 module _ (s : Setting) (r : Reader) (above : List Statement) (k : Represents s r above) where
   -- a line that gives something again
   again : (f : Statement) → gives_again (known r) f ≡ gives_again (told above) f
-  again (GlyphLine code rows) = k.assets.glyph_codes code
+  again (GlyphLine code rows) = k.assets.has_glyph code
   again (BitmapLine name w h d) = rw k.assets.names refl
   again (PatternLine name words) = rw k.assets.pattern_names refl
   again (TaskLine name) = rw k.tasks.tasks refl
   again f = refl
 
   -- a hook that is used
-  hooks_named : (o : Option ℤ) → is_used (known r).hooks_named o ≡ is_used (told above).hooks_named o
-  hooks_named None = refl
-  hooks_named (Some n) = k.tasks.hooks_named (unsigned_abs n)
+  names_hook : (o : Option ℤ) → is_hook_named (known r).names_hook o ≡ is_hook_named (told above).names_hook o
+  names_hook None = refl
+  names_hook (Some n) = k.tasks.names_hook (unsigned_abs n)
 
   -- the counts
   counts : AreCountedAlike (known r) (told above)
@@ -154,7 +154,7 @@ module _ (s : Setting) (r : Reader) (above : List Statement) (k : Represents s r
   -- the tests of a statement
   tests_alike : (f : Statement) → line_tested (setting_of r) (known r) (StatementLine f) ≡ line_tested s (told above) (StatementLine f)
   tests_alike f =
-      chain _ _ _ _ _ _ _ _ _ _ _ _ _ _ _ _ _ _ (ap (λ n. is_line_in_range n f) k.version) (ap (λ ns. lacks_name ns f) k.assets.names) (again f) (ap (λ ps. parts_pair ps f) k.tasks.pairs) (rw (k.tasks.group, k.tasks.calls_before_group, k.tasks.calls_in_task) refl) (few f) (ap (λ n. is_no_hook n (hook_on f)) k.hooks) (hooks_named (hook_on f)) (ap (λ n. has_padding n f) k.assets.width)
+      chain _ _ _ _ _ _ _ _ _ _ _ _ _ _ _ _ _ _ (ap (λ n. is_line_in_range n f) k.version) (ap (λ ns. lacks_name ns f) k.assets.names) (again f) (ap (λ ps. parts_pair ps f) k.tasks.pairs) (rw (k.tasks.group, k.tasks.calls_before_group, k.tasks.calls_in_task) refl) (few f) (ap (λ n. is_no_hook n (hook_on f)) k.hooks) (names_hook (hook_on f)) (ap (λ n. has_padding n f) k.assets.width)
     where
       chain : (a b c j d e g h i a' b' c' j' d' e' g' h' i' : Bool) → a ≡ a' → b ≡ b' → c ≡ c' → j ≡ j' → d ≡ d' → e ≡ e' → g ≡ g' → h ≡ h' → i ≡ i' → (demand a Range >>= (λ _. demand (not b) NoName >>= (λ _. demand (not c) DoubleName >>= (λ _. demand (not j) GzzReason >>= (λ _. demand d Group >>= (λ _. demand e TooMany >>= (λ _. demand (not g) NoHook >>= (λ _. demand (not h) HookUsed >>= (λ _. demand (not i) Padding))))))))) ≡ (demand a' Range >>= (λ _. demand (not b') NoName >>= (λ _. demand (not c') DoubleName >>= (λ _. demand (not j') GzzReason >>= (λ _. demand d' Group >>= (λ _. demand e' TooMany >>= (λ _. demand (not g') NoHook >>= (λ _. demand (not h') HookUsed >>= (λ _. demand (not i') Padding)))))))))
       chain a b c j d e g h i a' b' c' j' d' e' g' h' i' p q r x s t u v w = rw (p, q, r, x, s, t, u, v, w) refl

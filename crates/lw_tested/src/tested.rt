@@ -4,7 +4,7 @@ ghost use Rattle.lw_calls.specs.Limits.{limits_of};
 ghost use Rattle.lw_grammar.specs.Statements.{StatementLine, is_line_in_range};
 ghost use Rattle.lw_grammar.specs.Told.{and_name, hook_on, told_with};
 ghost use Rattle.lw_grammar.specs.Script.{lacks_name, gives_again, group_has_calls, fits_group, super_limit, are_few};
-ghost use Rattle.lw_grammar.specs.Script.{is_no_hook, is_used, has_padding, line_tested};
+ghost use Rattle.lw_grammar.specs.Script.{is_no_hook, is_hook_named, has_padding, line_tested};
 ghost use Rattle.lw_statements.specs.StatementMeaning.{statement_meaning};
 ghost use Rattle.lw_reader.specs.ReaderKnows.{known, setting_of};
 
@@ -42,7 +42,7 @@ fn gives_again<'a>(reader: &Reader<'a>, statement: &Statement<'a>) -> bool
     ensures { result ≡ gives_again (known reader.now) (statement_meaning statement.now) }
 {
     match statement {
-        Statement::Glyph { code, .. } => reader.assets.glyph_codes[*code as usize],
+        Statement::Glyph { code, .. } => reader.assets.has_glyph[*code as usize],
         Statement::Bitmap { name, .. } => has_name(&reader.assets.names, name),
         Statement::Pattern { name, .. } => has_name(&reader.assets.pattern_names, name),
         Statement::Task(name) => has_name(&reader.tasks.task_names, name),
@@ -181,10 +181,10 @@ fn is_no_hook<'a>(reader: &Reader<'a>, statement: &Statement<'a>) -> bool
     }
 }
 
-/// Whether the hook that the line names is used.
-fn is_used<'a>(reader: &Reader<'a>, statement: &Statement<'a>) -> bool
+/// Whether the line names a hook that a line above names.
+fn is_hook_named<'a>(reader: &Reader<'a>, statement: &Statement<'a>) -> bool
     requires { IsTrue (is_line_in_range reader.now.version (statement_meaning statement.now)) }
-    ensures { result ≡ is_used (known reader.now).hooks_named (hook_on (statement_meaning statement.now)) }
+    ensures { result ≡ is_hook_named (known reader.now).names_hook (hook_on (statement_meaning statement.now)) }
 {
     match statement.hook() {
         None => false,
@@ -238,7 +238,7 @@ pub(crate) fn tested<'a>(reader: &Reader<'a>, statement: &Statement<'a>) -> Resu
     if is_no_hook(reader, statement) {
         return Err(Reason::NoHook);
     }
-    if is_used(reader, statement) {
+    if is_hook_named(reader, statement) {
         return Err(Reason::HookUsed);
     }
     if has_padding(reader, statement) {

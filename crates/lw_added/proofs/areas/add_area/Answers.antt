@@ -9,8 +9,8 @@ use Rattle.lw_added.proofs.areas.add_area.Goals as goal
 
 pub returns-then-is_empty : goal.returns-then-is_empty
 returns-then-is_empty c = λ s above k.
-    let P : List Statement → Type 0 = λ fs. OnOk c.add_seen.result (Represents s c.add_seen.new.reader (added fs above)) in
-    subst P (sym (lines_without (told above).group c.args.layer.now c.args.rects.now (sym c.is_empty.ensures ∙ c.if-is_empty.true))) (c.add_seen.ensures s above k)
+    let P : List Statement → Type 0 = λ fs. OnOk c.add_name_without_slot.result (Represents s c.add_name_without_slot.new.reader (added fs above)) in
+    subst P (sym (lines_without (told above).group c.args.layer.now c.args.rects.now (sym c.is_empty.ensures ∙ c.if-is_empty.true))) (c.add_name_without_slot.ensures s above k)
 
 pub add_fills-requires : goal.add_fills-requires
 add_fills-requires c =

@@ -20,7 +20,7 @@ returns c = λ above s.
     let d = size_read c.args.depth _ 8 c.ranges.depth c.count-self-3.ensures c.requires.depth in
     let some = rows_some c.count-self-3.result c.count-self-2.result d.lower h.lower in
     record {
-      glyph_codes = s.glyph_codes;
+      has_glyph = s.has_glyph;
       glyphs = s.glyphs;
       names = ap targets c.in_ok-insert.ensures.keys ∙ name_added ks c.args.name c.requires.new ∙ ap (λ ns. ns ++ c.args.name.now ∷ []) s.names;
       pattern_names = s.pattern_names;

@@ -9,7 +9,7 @@ returns c = λ above s.
     let a = c.args.self.now in
     let same = found_is c.new.result _ _ c.unwrap-pattern.result c.new.ensures c.unwrap-pattern.ensures ∙ c.words.ensures.value in
     record {
-      glyph_codes = s.glyph_codes;
+      has_glyph = s.has_glyph;
       glyphs = s.glyphs;
       names = s.names;
       width = s.width;

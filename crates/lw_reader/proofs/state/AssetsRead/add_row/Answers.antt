@@ -10,7 +10,7 @@ returns-else-self-eq0 c = λ above s.
     let bytes = decoded c.args.digits.now.digits.now in
     let grown = c.in_ok-push_bytes.ensures in
     record {
-      glyph_codes = s.glyph_codes;
+      has_glyph = s.has_glyph;
       glyphs = s.glyphs;
       names = s.names;
       pattern_names = s.pattern_names;

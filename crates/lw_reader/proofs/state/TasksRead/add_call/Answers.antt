@@ -19,14 +19,14 @@ returns c = λ above h s.
     let act = act_meaning c.args.act.now in
     let first : c.in_ok-slot.slot ≡ first_place (told above).names ls = c.in_ok-slot.ensures.first ∙ ap (λ ns. first_place ns ls) s.names in
     let second : c.in_ok-slot.other ≡ second_place (told above).names ls = c.in_ok-slot.ensures.second ∙ ap (λ ns. second_place ns ls) s.names in
-    let P : Option ℤ → Type 0 = λ o. AreNoted c.note_hook.new.hooks_named.keys (and_hook o (told above).hooks_named) in
+    let P : Option ℤ → Type 0 = λ o. AreNoted c.note_hook.new.hooks_named.keys (and_hook o (told above).names_hook) in
     record {
       tasks = s.tasks;
       names = c.in_ok-slot.ensures.names ∙ ap (λ ns. and_names ns ls) s.names;
       names_without_slot = s.names_without_slot;
       pairs = s.pairs;
       supers = c.supers_with-self.ensures ls ∙ ap (λ n. cond (makes_super (CallLine ls act)) 1 0 + n) s.supers;
-      hooks_named = subst P (c.hook.ensures ls) (c.in_ok-note_hook.ensures (told above).hooks_named s.hooks_named);
+      names_hook = subst P (c.hook.ensures ls) (c.in_ok-note_hook.ensures (told above).names_hook s.names_hook);
       group = c.group_below-self.ensures ∙ ap (left_open_by ls act) s.group;
       calls_before_group = c.began_below-self.ensures above s.calls_before_group s.calls_in_task ls;
       calls_in_task = ap (λ n. n + 1) s.calls_in_task;

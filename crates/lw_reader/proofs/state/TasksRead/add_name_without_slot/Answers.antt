@@ -2,7 +2,7 @@ use Rattle.std.proofs.Common.{ap, ◌∙◌}
 use Rattle.lw_grammar.specs.Told.{and_name}
 use Rattle.lw_words.specs.Cuts.{targets}
 use Rattle.lw_reader.proofs.NamesAdded.{targets_insert}
-use Rattle.lw_reader.proofs.state.TasksRead.add_seen.Goals as goal
+use Rattle.lw_reader.proofs.state.TasksRead.add_name_without_slot.Goals as goal
 
 pub returns : goal.returns
 returns c = λ above s.
@@ -12,7 +12,7 @@ returns c = λ above s.
       names_without_slot = ap targets c.in_ok-insert.ensures.keys ∙ targets_insert c.args.self.now.names_without_slot.keys c.args.name ∙ ap (λ ns. and_name ns c.args.name.now) s.names_without_slot;
       pairs = s.pairs;
       supers = s.supers;
-      hooks_named = s.hooks_named;
+      names_hook = s.names_hook;
       group = s.group;
       calls_before_group = s.calls_before_group;
       calls_in_task = s.calls_in_task;
