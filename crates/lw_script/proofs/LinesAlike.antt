@@ -15,7 +15,7 @@ use Rattle.lw_reader.specs.declared.read_line.ReadLine.TheVariants.{Statement as
 use Rattle.lw_reader.specs.declared.state.Reader.{Reader}
 use Rattle.lw_words.specs.declared.stop.Stop.{Stop}
 use Rattle.lw_reader.specs.LinesRead.{lines_of}
-use Rattle.lw_tested.specs.AreasRead.{ReadsBelow}
+use Rattle.lw_line_demands.specs.AreasRead.{ReadsBelow}
 use Rattle.lw_reader.specs.ReaderKnows.{known, setting_of}
 use Rattle.lw_reader.specs.Represents.{Represents}
 

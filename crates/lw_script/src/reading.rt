@@ -5,12 +5,12 @@ ghost use Rattle.lw_grammar.specs.Told.{told};
 ghost use Rattle.lw_grammar.specs.Script.{Setting, line_read, line_of_words};
 ghost use Rattle.lw_words.specs.Cuts.{targets};
 ghost use Rattle.lw_reader.specs.ReaderKnows.{known, setting_of};
-ghost use Rattle.lw_tested.specs.AreasRead.{ReadsBelow};
+ghost use Rattle.lw_line_demands.specs.AreasRead.{ReadsBelow};
 ghost use Rattle.lw_reader.specs.Represents.{Represents};
 
+use lw_line_demands::tested_line;
 use lw_lines::words_line;
 use lw_reader::{ReadLine, Reader};
-use lw_tested::tested_line;
 use lw_words::{Stop, Token, line_words};
 use std::alloc::Global;
 

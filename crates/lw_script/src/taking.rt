@@ -10,7 +10,7 @@ ghost use Rattle.lw_script.specs.NextLine.{CutsDue};
 
 use crate::input::ScriptStop;
 use crate::reading::read_line;
-use lw_added::add_read;
+use lw_line_additions::add_read;
 use lw_reader::Reader;
 use lw_words::{Stop, Token, cut_line, is_skipped};
 use std::alloc::Global;

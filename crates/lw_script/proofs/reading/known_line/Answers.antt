@@ -4,7 +4,7 @@ use Rattle.lw_grammar.specs.Demands.{◌>>=◌}
 use Rattle.lw_grammar.specs.Script.{line_of_words}
 use Rattle.lw_words.proofs.Binds.{stops_before}
 use Rattle.lw_words.specs.Cuts.{targets}
-use Rattle.lw_tested.specs.AreasRead.{ReadsBelow}
+use Rattle.lw_line_demands.specs.AreasRead.{ReadsBelow}
 use Rattle.lw_reader.specs.ReaderKnows.{known, setting_of}
 use Rattle.lw_script.proofs.reading.known_line.Goals as goal
 

@@ -3,7 +3,7 @@ use Rattle.lw_grammar.specs.declared.reason.Reason.{Reason}
 use Rattle.lw_grammar.specs.Demands.{◌>>=◌}
 use Rattle.lw_grammar.specs.Statements.{Line}
 use Rattle.lw_words.proofs.Binds.{stops_before}
-use Rattle.lw_tested.specs.AreasRead.{ReadsBelow, if_passed}
+use Rattle.lw_line_demands.specs.AreasRead.{ReadsBelow, if_passed}
 use Rattle.lw_reader.specs.ReaderKnows.{known, setting_of}
 use Rattle.lw_script.proofs.reading.known_words.Goals as goal
 

@@ -1,9 +1,0 @@
-//! A line of a script added to what was read before it. `lw_grammar` has what lines tell as definitions, in `specs/Told.antt`.
-#![tactic(auto)]
-
-mod adding;
-mod areas;
-mod lines;
-mod pairs;
-
-pub use lines::add_read;
