@@ -25,7 +25,8 @@ use Rattle.lw_machine.specs.Shapes.{rect_fill}
 use Rattle.lw_machine.specs.Step.{refuse, changed_unless, drawn_on, after}
 use Rattle.lw_machine.specs.Sound.{IsKeeping, IsSlot}
 use Rattle.lw_machine.proofs.DrawingSound.{fill_alike}
-use Rattle.lw_fills.specs.Fills.{after_calls, fills, area_fill, FillsAreOneDrawing, AreasAreOneDrawing}
+use Rattle.lw_gzz.specs.Together.{after_all}
+use Rattle.lw_fills.specs.Fills.{fills, area_fill, FillsAreOneDrawing, AreasAreOneDrawing}
 
 -- what two drawings leave at a place, of which one at most has it
 twice : (drawable a b both : Bool) (painted : ℕ → ℕ) (old : ℕ) → both ≡ (a || b) → (a ≡ true → b ≡ false)
@@ -124,26 +125,26 @@ unfolding is_visible top with_pens
 still_visible d slot x visible r l = refl
 
 fills_after : (task slot : ℕ) (rs : List Rectangle) (d : Desk) (l : Layer) (visible : ℕ → ℕ → Bool) → d.slot slot ≡ Live l
-    → is_visible d slot l ≡ visible → after_calls d task (fills slot rs) ≡ with_slot d slot (Live (filled visible rs l))
+    → is_visible d slot l ≡ visible → after_all d task (fills slot rs) ≡ with_slot d slot (Live (filled visible rs l))
 fills_after task slot [] d l visible is same = as_before d slot (Live l) is
 fills_after task slot (r ∷ rs) d l visible is same =
     let one : Layer = rect_fill visible r l in
     let first : after d task (Fill slot r) ≡ with_slot d slot (Live one) =
     fill_after d task slot r l is ∙ ap (λ v. with_slot d slot (Live (rect_fill v r l))) same in
-    ap (λ e. after_calls e task (fills slot rs)) first
+    ap (λ e. after_all e task (fills slot rs)) first
     ∙ (fills_after task slot rs (with_slot d slot (Live one)) one visible (there d slot (Live one)) (still_visible d slot (Live one) visible r l ∙ same)
     ∙ again d slot (Live one) (Live (filled visible rs one)))
 
 -- fills of a slot without a layer change nothing
-refused_after : (task slot : ℕ) (rs : List Rectangle) (d : Desk) → is_live (d.slot slot) ≡ false → after_calls d task (fills slot rs) ≡ d
+refused_after : (task slot : ℕ) (rs : List Rectangle) (d : Desk) → is_live (d.slot slot) ≡ false → after_all d task (fills slot rs) ≡ d
 unfolding after
 refused_after task slot [] d bare = refl
 refused_after task slot (r ∷ rs) d bare =
-    ap (λ e. after_calls e task (fills slot rs)) (ap (λ b. changed_unless (refuse (not b) NotOpen None) d (drawn_on d slot (λ visible. rect_fill visible r))) bare)
+    ap (λ e. after_all e task (fills slot rs)) (ap (λ b. changed_unless (refuse (not b) NotOpen None) d (drawn_on d slot (λ visible. rect_fill visible r))) bare)
     ∙ refused_after task slot rs d bare
 
 undisturbed : (task slot : ℕ) (rs : List Rectangle) (d : Desk) (change : (ℕ → ℕ → Bool) → Layer → Layer) (x : Slot) → d.slot slot ≡ x
-    → is_live x ≡ false → change_layer (λ l. change (is_visible d slot l) l) x ≡ x → after_calls d task (fills slot rs) ≡ drawn_on d slot change
+    → is_live x ≡ false → change_layer (λ l. change (is_visible d slot l) l) x ≡ x → after_all d task (fills slot rs) ≡ drawn_on d slot change
 undisturbed task slot rs d change x is bare same =
     refused_after task slot rs d (ap is_live is ∙ bare)
     ∙ (as_before d slot x is ∙ ap (with_slot d slot) (sym (ap (change_layer (λ l. change (is_visible d slot l) l)) is ∙ same)))
@@ -154,7 +155,7 @@ fills_are d task slot rs ok apart = go (d.slot slot) refl (ok.slots slot)
     change : (ℕ → ℕ → Bool) → Layer → Layer
     change = area_fill (covers rs)
 
-    go : (x : Slot) → d.slot slot ≡ x → IsSlot d slot x → after_calls d task (fills slot rs) ≡ drawn_on d slot change
+    go : (x : Slot) → d.slot slot ≡ x → IsSlot d slot x → after_all d task (fills slot rs) ≡ drawn_on d slot change
     go Unopened is here = undisturbed task slot rs d change Unopened is refl refl
     go (Live l) is here =
         fills_after task slot rs d l (is_visible d slot l) is refl

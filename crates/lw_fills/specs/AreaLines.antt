@@ -10,7 +10,8 @@ use Rattle.lw_grammar.specs.Told.{Told, and_name, place_among, onto_last, area_w
 use Rattle.lw_machine.specs.Desk.{Desk}
 use Rattle.lw_machine.specs.Step.{drawn_on}
 use Rattle.lw_machine.specs.Sound.{IsDesk}
-use Rattle.lw_fills.specs.Fills.{after_calls, fills, area_fill}
+use Rattle.lw_gzz.specs.Together.{after_all}
+use Rattle.lw_fills.specs.Fills.{fills, area_fill}
 
 -- the calls of tasks with further ones of the last task
 abbrev pub with_calls : List Call → List (List Call) → List (List Call)
@@ -37,7 +38,7 @@ pub record IsOneDrawing (t : Told) (layer : List ℕ) (pattern : Option (List �
   pub groups : (told_all (stands_for t (AreaLine layer pattern points)) t).groups
       ≡ groups_after t (slot_on t layer) (length (area_rectangles points (area_words t pattern)))
   pub drawing : (d : Desk) (task : ℕ) → IsDesk d
-      → after_calls d task (fills (slot_on t layer) (area_rectangles points (area_words t pattern)))
+      → after_all d task (fills (slot_on t layer) (area_rectangles points (area_words t pattern)))
       ≡ drawn_on d (slot_on t layer) (area_fill (is_in_area points (area_words t pattern)))
 
 -- every area is one drawing

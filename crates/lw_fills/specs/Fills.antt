@@ -1,5 +1,5 @@
 -- Fills that are made one after another, and one drawing of all their pixels.
-use Rattle.std.specs.Prelude.{◌≡◌, ℕ, Bool, true, List, [], ◌∷◌, map, AllPairs, ℤ, pos}
+use Rattle.std.specs.Prelude.{◌≡◌, ℕ, Bool, true, List, map, AllPairs, ℤ, pos}
 use Rattle.lw_region.specs.Rectangle.{Rectangle, AreApart}
 use Rattle.lw_region.specs.Bands.{covers}
 use Rattle.lw_area.specs.declared.point.Point.{Point}
@@ -9,13 +9,9 @@ use Rattle.lw_calls.specs.declared.call.Call.TheVariants.{Fill}
 use Rattle.lw_machine.specs.Layer.{Layer}
 use Rattle.lw_machine.specs.Desk.{Desk}
 use Rattle.lw_machine.specs.Paint.{paint_where}
-use Rattle.lw_machine.specs.Step.{drawn_on, after}
+use Rattle.lw_machine.specs.Step.{drawn_on}
 use Rattle.lw_machine.specs.Sound.{IsDesk}
-
--- the desk after these calls of a task, one after another
-abbrev pub after_calls : Desk → ℕ → List Call → Desk
-after_calls d task [] = d
-after_calls d task (c ∷ cs) = after_calls (after d task c) task cs
+use Rattle.lw_gzz.specs.Together.{after_all}
 
 -- the fills of a slot's layer, one for each rectangle
 abbrev pub fills : ℕ → List Rectangle → List Call
@@ -29,10 +25,10 @@ area_fill has visible l = paint_where visible (λ x y. has (pos x) (pos y)) (λ 
 abbrev pub FillsAreOneDrawing : Type 0
 FillsAreOneDrawing =
     (d : Desk) (task slot : ℕ) (rs : List Rectangle) → IsDesk d → AllPairs AreApart rs
-    → after_calls d task (fills slot rs) ≡ drawn_on d slot (area_fill (covers rs))
+    → after_all d task (fills slot rs) ≡ drawn_on d slot (area_fill (covers rs))
 
 -- Fills of the rectangles of an area are one drawing of the area's pixels.
 abbrev pub AreasAreOneDrawing : Type 0
 AreasAreOneDrawing =
     (d : Desk) (task slot : ℕ) (points : List Point) (words : List ℕ) → IsDesk d
-    → after_calls d task (fills slot (area_rectangles points words)) ≡ drawn_on d slot (area_fill (is_in_area points words))
+    → after_all d task (fills slot (area_rectangles points words)) ≡ drawn_on d slot (area_fill (is_in_area points words))
