@@ -72,3 +72,23 @@ ordered_script = in_task_a ++ script (codes "end/order/0 15/1/")
 
 abbrev pub ordered_input : ScriptInput
 ordered_input = record { plan = one_task 16 4 1 [] []; order = 0 ∷ 15 ∷ 1 ∷ []; rest = 38 }
+
+-- a task without calls; a script of it with a report, behind whose line `report` stands what is no line, and one that ends with
+-- that line; one that ends with a comment; and the last two without their last line feed
+abbrev pub idle_plan : Plan
+idle_plan = one_task 16 4 1 [] []
+
+abbrev pub reported_script : List ℕ
+reported_script = in_task_a ++ script (codes "end/report/order 0/") ++ 255 ∷ 10 ∷ []
+
+abbrev pub report_at_end : List ℕ
+report_at_end = in_task_a ++ script (codes "end/report/")
+
+abbrev pub report_without_feed : List ℕ
+report_without_feed = in_task_a ++ script (codes "end/report")
+
+abbrev pub comment_at_end : List ℕ
+comment_at_end = in_task_a ++ script (codes "end/# note/")
+
+abbrev pub comment_without_feed : List ℕ
+comment_without_feed = in_task_a ++ script (codes "end/# note")
