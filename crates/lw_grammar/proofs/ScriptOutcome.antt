@@ -9,7 +9,7 @@ use Rattle.lw_grammar.specs.Demands.{◌>>=◌, demand}
 use Rattle.lw_grammar.specs.Lines.{lines}
 use Rattle.lw_grammar.specs.Statements.{Statement, is_line_in_range, ScreenLine, BitmapLine, RowLine, TaskLine, EndLine, OrderLine, ReportLine, Line, StatementLine, AreaLine, GzzLine}
 use Rattle.lw_grammar.specs.Told.{Told, stands_for, told}
-use Rattle.lw_grammar.specs.Script.{Setting, is_skipped, are_assets_due, are_tasks_due, is_nothing_due, is_audited, lacks_name, gives_again, words_read, parts_pair, line_made, tested_with, statement_tested, line_tested, line_read, added, statements_with, may_end, ScriptInput, input_from, length_of_lines, SpellsInput, AreGoodBelow, AreNoLinesBelow, IsBadBelow, IsFirstBadIn}
+use Rattle.lw_grammar.specs.Script.{Setting, is_skipped, are_assets_due, are_tasks_due, is_nothing_due, is_audited, lacks_name, gives_again, words_read, parts_pair, line_made, tested_with, statement_tested, line_tested, line_read, added, statements_with, may_end, ScriptInput, input_from, bytes_in_lines, SpellsInput, AreGoodBelow, AreOutsideBelow, IsBadBelow, IsFirstBadIn}
 use Rattle.lw_grammar.specs.Reading.{Reached, at_the_top, with_line, at_number, end_read, lines_read, outcome_of}
 use Rattle.lw_grammar.specs.Laws.{IsDecidedIn}
 use Rattle.lw_grammar.specs.GoodLines.{AreGoodLines}
@@ -163,7 +163,7 @@ line_step s p line ls statements due read = rw (due, read) refl
 abbrev ReadAmong : Setting → Reached → Reached → List (List ℕ) → Type 0
 ReadAmong s p q ls =
     (above : List (List ℕ)) × (below : List (List ℕ))
-    × (ls ≡ above ++ below) × (q.place ≡ p.place + length_of_lines above) × AreGoodBelow s p.statements above q.statements × AreNoLinesBelow q.statements below × (may_end s.form (told q.statements).section ≡ true)
+    × (ls ≡ above ++ below) × (q.place ≡ p.place + bytes_in_lines above) × AreGoodBelow s p.statements above q.statements × AreOutsideBelow q.statements below × (may_end s.form (told q.statements).section ≡ true)
 
 reads_among : (s : Setting) (p q : Reached) (ls : List (List ℕ)) → lines_read s p ls ≡ Ok q → ReadAmong s p q ls
 reads_among s p q [] e =
@@ -179,8 +179,8 @@ reads_among s p q (line ∷ ls) e =
     at_statements : (r : Result (List Statement) Reason) → statements_with s p.statements line ≡ r → is_nothing_due (told p.statements).section ≡ false → Next → (at_number p.number r >>= (λ more. lines_read s (with_line p line more) ls)) ≡ Ok q → ReadAmong s p q (line ∷ ls)
     at_statements (Ok more) k due next d =
         let b = next more d in
-        let far : q.place ≡ (p.place + (length line + 1)) + length_of_lines b.0 = b.3 in
-        let same : q.place ≡ p.place + ((length line + 1) + length_of_lines b.0) = omega (arith, far) in
+        let far : q.place ≡ (p.place + (length line + 1)) + bytes_in_lines b.0 = b.3 in
+        let same : q.place ≡ p.place + ((length line + 1) + bytes_in_lines b.0) = omega (arith, far) in
         (line ∷ b.0, b.1, ap (λ l. line ∷ l) b.2, same, (due, more, k, b.4), b.5, b.6)
     at_statements (Err r) k due next d = absurd (cc)
 
@@ -192,24 +192,24 @@ reads_among s p q (line ∷ ls) e =
     go false due next d = at_statements (statements_with s p.statements line) refl due next d
 
 -- reading ends where no further line of the script stands, and the input may end
-ends_read : (s : Setting) (p : Reached) (below : List (List ℕ)) → AreNoLinesBelow p.statements below → may_end s.form (told p.statements).section ≡ true → lines_read s p below ≡ Ok p
+ends_read : (s : Setting) (p : Reached) (below : List (List ℕ)) → AreOutsideBelow p.statements below → may_end s.form (told p.statements).section ≡ true → lines_read s p below ≡ Ok p
 ends_read s p [] h e = rw e refl
 ends_read s p (line ∷ ls) h e = rw (h, e) refl
 
 -- How far good lines are read.
 abbrev IsReadTo : Setting → Reached → List (List ℕ) → List (List ℕ) → List Statement → Reached → Type 0
 IsReadTo s p above below statements q =
-    (lines_read s p (above ++ below) ≡ Ok q) × (q.statements ≡ statements) × (q.place ≡ p.place + length_of_lines above)
+    (lines_read s p (above ++ below) ≡ Ok q) × (q.statements ≡ statements) × (q.place ≡ p.place + bytes_in_lines above)
 
-reads_below : (s : Setting) (p : Reached) (above below : List (List ℕ)) (statements : List Statement) → AreGoodBelow s p.statements above statements → AreNoLinesBelow statements below → may_end s.form (told statements).section ≡ true → (q : Reached) × IsReadTo s p above below statements q
+reads_below : (s : Setting) (p : Reached) (above below : List (List ℕ)) (statements : List Statement) → AreGoodBelow s p.statements above statements → AreOutsideBelow statements below → may_end s.form (told statements).section ≡ true → (q : Reached) × IsReadTo s p above below statements q
 reads_below s p [] below statements r h e =
     let far : p.place ≡ p.place + 0 = omega arith in
     let ended : may_end s.form (told p.statements).section ≡ true = ap (λ (a : List Statement). may_end s.form (told a).section) r ∙ e in
-    (p, (ends_read s p below (subst (λ a. AreNoLinesBelow a below) (sym r) h) ended, r, far))
+    (p, (ends_read s p below (subst (λ a. AreOutsideBelow a below) (sym r) h) ended, r, far))
 reads_below s p (line ∷ above) below statements r h e =
     let rest = reads_below s (with_line p line r.1) above below statements r.3 h e in
-    let far : rest.0.place ≡ (p.place + (length line + 1)) + length_of_lines above = rest.1.2 in
-    let same : rest.0.place ≡ p.place + ((length line + 1) + length_of_lines above) = omega (arith, far) in
+    let far : rest.0.place ≡ (p.place + (length line + 1)) + bytes_in_lines above = rest.1.2 in
+    let same : rest.0.place ≡ p.place + ((length line + 1) + bytes_in_lines above) = omega (arith, far) in
     (rest.0, (line_step s p line (above ++ below) r.1 r.0 r.2 ∙ rest.1.0, rest.1.1, same))
 
 -- the input that reading gives is spelled
@@ -217,8 +217,8 @@ pub outcome_spells : (s : Setting) (bytes : List ℕ) (input : ScriptInput) → 
 outcome_spells s bytes input h =
     let l = of_outcome s bytes input h in
     let b = reads_among s at_the_top l.reached (lines bytes) l.lines_are in
-    let far : l.reached.place ≡ 0 + length_of_lines b.0 = b.3 in
-    let place : l.reached.place ≡ length_of_lines b.0 = omega (arith, far) in
+    let far : l.reached.place ≡ 0 + bytes_in_lines b.0 = b.3 in
+    let place : l.reached.place ≡ bytes_in_lines b.0 = omega (arith, far) in
     record {
       above = b.0;
       below = b.1;
@@ -235,8 +235,8 @@ pub spells_outcome : (s : Setting) (bytes : List ℕ) (input : ScriptInput) → 
 spells_outcome s bytes input k =
     let r = reads_below s at_the_top k.above k.below k.statements k.read k.others k.ended in
     let read : lines_read s at_the_top (lines bytes) ≡ Ok r.0 = ap (lines_read s at_the_top) k.lines_are ∙ r.1.0 in
-    let far : r.0.place ≡ 0 + length_of_lines k.above = r.1.2 in
-    let place : r.0.place ≡ length_of_lines k.above = omega (arith, far) in
+    let far : r.0.place ≡ 0 + bytes_in_lines k.above = r.1.2 in
+    let place : r.0.place ≡ bytes_in_lines k.above = omega (arith, far) in
     ap (λ o. o >>= (λ p. Ok (input_from s (told p.statements) (min (length bytes) p.place)))) read
     ∙ ap (λ (a : List Statement). Ok (input_from s (told a) (min (length bytes) r.0.place))) r.1.1
     ∙ ap (λ n. Ok (input_from s (told k.statements) (min (length bytes) n))) place

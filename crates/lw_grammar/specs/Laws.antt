@@ -5,7 +5,7 @@ use Rattle.lw_calls.specs.Plan.{IsPlan}
 use Rattle.lw_grammar.specs.declared.reason.Reason.{Reason}
 use Rattle.lw_grammar.specs.Lines.{lines}
 use Rattle.lw_grammar.specs.Script.{Setting, ScriptInput, SpellsInput, IsFirstBadIn}
-use Rattle.lw_grammar.specs.Reading.{at_the_top, lines_read, outcome_of}
+use Rattle.lw_grammar.specs.Reading.{outcome_of}
 
 -- Reading bytes line by line gives an input exactly where they spell it.
 abbrev pub ReadingGivesSpelledInputs : Type 0
@@ -14,12 +14,12 @@ ReadingGivesSpelledInputs =
     → (outcome_of s bytes ≡ Ok input → SpellsInput s bytes input)
     × (SpellsInput s bytes input → outcome_of s bytes ≡ Ok input)
 
--- Reading lines one after another fails exactly where there is a first bad line, with its number and its first reason.
+-- Reading bytes line by line fails exactly where there is a first bad line, with its number and its first reason.
 abbrev pub ReadingFailsAtFirstBadLines : Type 0
 ReadingFailsAtFirstBadLines =
-    (s : Setting) (ls : List (List ℕ)) (n : ℕ) (reason : Reason)
-    → (lines_read s at_the_top ls ≡ Err (n, reason) → IsFirstBadIn s ls n reason)
-    × (IsFirstBadIn s ls n reason → lines_read s at_the_top ls ≡ Err (n, reason))
+    (s : Setting) (bytes : List ℕ) (n : ℕ) (reason : Reason)
+    → (outcome_of s bytes ≡ Err (n, reason) → IsFirstBadIn s (lines bytes) n reason)
+    × (IsFirstBadIn s (lines bytes) n reason → outcome_of s bytes ≡ Err (n, reason))
 
 -- Bytes either have a first bad line, with one number and one reason, or they spell an input, and one only.
 pub record IsDecidedIn (s : Setting) (bytes : List ℕ) : Type 0 where
@@ -35,7 +35,7 @@ pub record IsDecidedIn (s : Setting) (bytes : List ℕ) : Type 0 where
 abbrev pub InputsAreDecided : Type 0
 InputsAreDecided = (s : Setting) (bytes : List ℕ) → IsDecidedIn s bytes
 
--- An input that may be run: `IsPlan` holds of its plan, which has the hooks that were handed in, and its order names numbers that
+-- An input whose plan may be run: `IsPlan` holds of it, it has the hooks that were handed in, and the order names numbers that
 -- tasks may have.
 pub record IsRunnableInput (s : Setting) (input : ScriptInput) : Type 0 where
   pub plan : IsPlan input.plan

@@ -9,7 +9,7 @@ use Rattle.lw_grammar.specs.Statements.{Statement}
 use Rattle.lw_grammar.specs.Told.{told}
 use Rattle.lw_grammar.specs.Script.{Setting, is_nothing_due, statements_with, may_end, ScriptInput, input_from}
 
--- How far lines were read: the statements that those stand for that aren't skipped, the nearest first; the number of the next
+-- How far lines were read: the statements for which those stand that aren't skipped, the nearest first; the number of the next
 -- line, counted from 1; and how many bytes the lines have, each with a line feed.
 pub record Reached : Type 0 where
   pub statements : List Statement

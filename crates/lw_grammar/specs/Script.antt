@@ -1,5 +1,5 @@
 -- The grammar of scripts (docs/FORMATS.md has it with an example): the rule of a line, by what the lines above it tell; which
--- input bytes spell, all of whose lines are good; and which is the first bad line of others, with its first reason.
+-- input bytes spell, where no line of the script is bad; and else which line is the first bad one, with its first reason.
 use Rattle.std.specs.Prelude.{◌≡◌, ℕ, ◌+◌, ◌-◌, ◌*◌, ◌==◌, Bool, true, false, not, ◌&&◌, ◌||◌, nat_le, nat_lt, min}
 use Rattle.std.specs.Prelude.{if◌then◌else◌, List, [], ◌∷◌, ◌++◌, length, map, ℤ, unsigned_abs, Option, Some, None, option_map}
 use Rattle.std.specs.Prelude.{is_none, Result, Ok, Err, ok_or, bytes_eq}
@@ -394,14 +394,14 @@ statements_with s above line =
     if is_skipped line then Ok above
     else (line_read s (told above) line >>= (λ l. Ok (added (stands_for (told above) l) above)))
 
--- The input may end in this section.
+-- Nothing is missing where the lines of a script of this form end in this section.
 abbrev pub may_end : Form → Section → Bool
 may_end Plain section = are_tasks_due section
 may_end Ordered section = are_numbers_due section
 may_end Audited section = is_nothing_due section
 
--- These lines are good, one after another, below lines with these statements, and none of them stands below a line `report`. With
--- theirs the statements are then `all`.
+-- These lines are good or skipped, one after another, below lines with these statements, and none of them stands below a line
+-- `report`. `all` are those statements with theirs.
 abbrev pub AreGoodBelow : Setting → List Statement → List (List ℕ) → List Statement → Type 0
 AreGoodBelow s above [] all = above ≡ all
 AreGoodBelow s above (line ∷ ls) all =
@@ -409,9 +409,9 @@ AreGoodBelow s above (line ∷ ls) all =
     × (more : List Statement) × (statements_with s above line ≡ Ok more) × AreGoodBelow s more ls all
 
 -- These lines aren't lines of the script, below lines with these statements: there are none, or they stand below a line `report`.
-abbrev pub AreNoLinesBelow : List Statement → List (List ℕ) → Type 0
-AreNoLinesBelow above [] = Unit {0}
-AreNoLinesBelow above (line ∷ ls) = is_nothing_due (told above).section ≡ true
+abbrev pub AreOutsideBelow : List Statement → List (List ℕ) → Type 0
+AreOutsideBelow above [] = Unit {0}
+AreOutsideBelow above (line ∷ ls) = is_nothing_due (told above).section ≡ true
 
 -- The first of these lines isn't skipped, stands below no line `report`, and is bad, with this first reason; or there is no line,
 -- and something is missing.
@@ -420,10 +420,10 @@ IsBadBelow s above [] reason = (may_end s.form (told above).section ≡ false) �
 IsBadBelow s above (line ∷ ls) reason =
     (is_nothing_due (told above).section ≡ false) × (is_skipped line ≡ false) × (line_read s (told above) line ≡ Err reason)
 
--- how many bytes lines have, each with a line feed
-abbrev pub length_of_lines : List (List ℕ) → ℕ
-length_of_lines [] = 0
-length_of_lines (line ∷ ls) = (length line + 1) + length_of_lines ls
+-- how many bytes these lines have, each with a line feed
+abbrev pub bytes_in_lines : List (List ℕ) → ℕ
+bytes_in_lines [] = 0
+bytes_in_lines (line ∷ ls) = (length line + 1) + bytes_in_lines ls
 
 -- What a script gives: its plan, the numbers of its order, and the place after its line `report`, or the number of
 -- bytes where there is none.
@@ -435,19 +435,21 @@ pub record ScriptInput : Type 0 where
 abbrev pub input_from : Setting → Told → ℕ → ScriptInput
 input_from s t place = record { plan = plan_of s.hooks t; order = t.order; rest = place }
 
--- The bytes spell this input: all lines of the script are good, one after another; the input may end below them; and this is the
--- input that they give. The last line of all may lack its line feed.
+-- The bytes spell this input: the first of their lines are good, one after another; there are no others, or these stand below a
+-- line `report`; nothing is missing; and this is what the good lines give. Its place is where they end, which is the end of the
+-- bytes where the last line lacks its line feed.
 pub record SpellsInput (s : Setting) (bytes : List ℕ) (input : ScriptInput) : Type 0 where
   pub above : List (List ℕ)
   pub below : List (List ℕ)
   pub statements : List Statement
   pub lines_are : lines bytes ≡ above ++ below
   pub read : AreGoodBelow s [] above statements
-  pub others : AreNoLinesBelow statements below
+  pub others : AreOutsideBelow statements below
   pub ended : may_end s.form (told statements).section ≡ true
-  pub gives : input ≡ input_from s (told statements) (min (length bytes) (length_of_lines above))
+  pub gives : input ≡ input_from s (told statements) (min (length bytes) (bytes_in_lines above))
 
--- Line number n is the first bad line, and this is its first reason; or the lines end above it, and something is missing.
+-- Line number n is the first bad line, since all above are good, and this is its first reason; or the lines end above it, and
+-- something is missing.
 pub record IsFirstBadIn (s : Setting) (ls : List (List ℕ)) (n : ℕ) (reason : Reason) : Type 0 where
   pub above : List (List ℕ)
   pub below : List (List ℕ)

@@ -13,8 +13,8 @@ pub fn reading_gives_spelled_inputs()
     ensures { ReadingGivesSpelledInputs }
 {}
 
-/// A law of the grammar of scripts, which does nothing: reading lines one after another fails exactly where there is a first bad
-/// line, with its number and its first reason.
+/// A law of the grammar of scripts, which does nothing: reading bytes line by line fails exactly where there is a first bad line,
+/// with its number and its first reason.
 pub fn reading_fails_at_first_bad_lines()
     ensures { ReadingFailsAtFirstBadLines }
 {}
