@@ -22,7 +22,7 @@ use Rattle.lw_cases.specs.Registers.{clipped, joined, joined_to_itself, filled_u
 use Rattle.lw_cases.specs.Scrolling.{scroll_past_all, scroll_damage, portion_scrolled, scroll_right_down, scroll_masked}
 use Rattle.lw_cases.specs.Scrolling.{scroll_updated, scroll_in_frame, scroll_from_damage, scroll_by_nothing}
 use Rattle.lw_cases.specs.Scrolling.{scroll_beside_damage}
-use Rattle.lw_cases.specs.SlotsAndTasks.{by_the_second, no_groups, drawn, drawn_groups, arranged}
+use Rattle.lw_cases.specs.SlotsAndTasks.{by_the_second, no_groups, drawn, drawn_groups, arranged, hooked, with_one_hook}
 use Rattle.lw_cases.specs.Strokes.{line_of_no_length}
 use Rattle.lw_cases.specs.Stacking.{put_first, backdrop_in_front, put_behind, backdrops_created}
 use Rattle.lw_cases.specs.SuperBitmaps.{scrolls_refused, super_updated, super_uncovered, super_window, portion_clipped}
@@ -65,7 +65,7 @@ abbrev pub plans_of_two_tasks : List Plan
 plans_of_two_tasks =
     two_layers ∷ locked_fills ∷ foreign_window ∷ own_registers ∷ beside_a_hold (fill 1 0 0 0 0) ∷
     beside_a_lock (blit_of 0 1) ∷ beside_two_locks (blit_of 1 0) ∷ by_the_second drawn drawn_groups ∷
-    by_the_second arranged no_groups ∷ []
+    by_the_second arranged no_groups ∷ with_one_hook (by_the_second hooked no_groups) ∷ []
 
 -- the worked plans that scripts spell, but those of which another has all calls and more
 abbrev pub worked_plans : List Plan

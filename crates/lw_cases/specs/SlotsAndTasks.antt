@@ -4,22 +4,24 @@ use Rattle.std.specs.Prelude.{ℕ, true, false, List, [], ◌∷◌, ◌++◌, r
 use Rattle.lw_planes.specs.Bitmap.{Bitmap}
 use Rattle.lw_calls.specs.declared.operation.RectOp.TheVariants.{Or as OrRect}
 use Rattle.lw_calls.specs.declared.make.Kind.TheVariants.{Simple, Smart, SuperBitmap}
+use Rattle.lw_calls.specs.declared.make.Place.TheVariants.{Front}
 use Rattle.lw_calls.specs.declared.call.Call.{Call}
 use Rattle.lw_calls.specs.declared.call.Call.TheVariants.{RegRect, OpenWindow, Close, ToFront, ToBack, InFrontOf, MoveBy}
-use Rattle.lw_calls.specs.declared.call.Call.TheVariants.{SizeBy, SetBox, Activate, Which, SetA, SetB, SetMode, SetMask, At}
-use Rattle.lw_calls.specs.declared.call.Call.TheVariants.{WritePixel, ReadPixel, DrawTo, Letters, SetRast, Clip, Unclip}
+use Rattle.lw_calls.specs.declared.call.Call.TheVariants.{SizeBy, SetBox, Activate, SetHook, Which, SetA, SetB, SetMode, SetMask}
+use Rattle.lw_calls.specs.declared.call.Call.TheVariants.{At, WritePixel, ReadPixel, DrawTo, Letters, SetRast, Clip, Unclip}
 use Rattle.lw_calls.specs.declared.call.Call.TheVariants.{BeginRefresh, EndRefresh, Scroll, SetTitle, TakeMessage}
 use Rattle.lw_calls.specs.declared.message.Message.TheVariants.{NewSize, Change, Active}
 use Rattle.lw_calls.specs.declared.reply.Reply.{Reply}
 use Rattle.lw_calls.specs.declared.reply.Reply.TheVariants.{Done, Pen, Outside, Nothing, Layer, Rects, Got, AlreadyOpen}
-use Rattle.lw_calls.specs.declared.reply.Reply.TheVariants.{NotSuper, InUpdate, NotInUpdate, OutOfBounds}
+use Rattle.lw_calls.specs.declared.reply.Reply.TheVariants.{Backdrop, NotSuper, InUpdate, NotInUpdate, OutOfBounds}
 use Rattle.lw_calls.specs.declared.last.Seen.{Seen}
 use Rattle.lw_calls.specs.declared.group.Hold.TheVariants.{Slot}
 use Rattle.lw_calls.specs.declared.group.Group.{Group}
 use Rattle.lw_calls.specs.Final.{Final}
 use Rattle.lw_calls.specs.Plan.{Plan}
-use Rattle.lw_cases.specs.Plans.{one_task, with_bitmap, with_second_task, rect, box, create, open_window, fill, scroll_left}
-use Rattle.lw_cases.specs.Plans.{blit_row, put_row}
+use Rattle.lw_machine.specs.Hook.{Hook}
+use Rattle.lw_cases.specs.Plans.{one_task, with_bitmap, with_second_task, rect, box, create, create_backdrop, open_window, fill}
+use Rattle.lw_cases.specs.Plans.{scroll_left, blit_row, put_row, of_version, with_hooks, solid}
 use Rattle.lw_cases.specs.Modes.{with_low_letter}
 
 -- a pixel of pen 1
@@ -106,16 +108,41 @@ abbrev pub deleted_replies : List Reply
 deleted_replies = Done ∷ Nothing ∷ Rects [] ∷ Done ∷ Nothing ∷ AlreadyOpen ∷ []
 
 -- A window that is to be opened again. A letter passes the last coordinate. An update is to end before it begins, and to begin
--- twice, and the clip region to change within it. (No script spells these updates.)
+-- twice, and the clip region to change within it. (No script spells these updates.) A backdrop layer is to go before the window,
+-- and the window before it.
 abbrev pub refused : ℕ → List Call
 refused s =
     open_window s Smart 0 0 4 1 false 0 [] ∷ open_window s Smart 4 0 4 1 false 0 [] ∷ At s (pos 32760) (pos 0) ∷
     Letters s (codes "A") ∷ EndRefresh s true ∷ BeginRefresh s ∷ BeginRefresh s ∷ Clip s 0 ∷ Unclip s ∷
-    EndRefresh s false ∷ []
+    EndRefresh s false ∷ create_backdrop 2 Smart Front 8 0 11 0 ∷ InFrontOf 2 s ∷ InFrontOf s 2 ∷ []
 
 abbrev pub refused_seen : Seen
 refused_seen = record { visible = rect 0 0 3 0 ∷ []; damage = []; messages = Some [] }
 
+abbrev pub backdrop_seen : Seen
+backdrop_seen = record { visible = rect 8 0 11 0 ∷ []; damage = []; messages = None }
+
 abbrev pub refused_replies : List Reply
 refused_replies =
-    Done ∷ AlreadyOpen ∷ Done ∷ OutOfBounds ∷ NotInUpdate ∷ Done ∷ InUpdate ∷ InUpdate ∷ InUpdate ∷ Done ∷ []
+    Done ∷ AlreadyOpen ∷ Done ∷ OutOfBounds ∷ NotInUpdate ∷ Done ∷ InUpdate ∷ InUpdate ∷ InUpdate ∷ Done ∷ Done ∷
+    Backdrop ∷ Backdrop ∷ []
+
+-- one hook of pen 1, and the plan of version 2 with it
+abbrev pub one_hook : List Hook
+one_hook = solid 1 ∷ []
+
+abbrev pub with_one_hook : Plan → Plan
+with_one_hook plan = of_version 2 (with_hooks one_hook plan)
+
+-- a layer that gets the hook, and then a column more
+abbrev pub hooked : ℕ → List Call
+hooked s = create s Smart 0 0 3 0 ∷ SetHook s 0 ∷ SizeBy s (pos 1) (pos 0) ∷ []
+
+abbrev pub hooked_row : List ℕ
+hooked_row = replicate 4 0 ++ 1 ∷ replicate 11 0
+
+abbrev pub hooked_seen : Seen
+hooked_seen = record { visible = rect 0 0 4 0 ∷ []; damage = rect 4 0 4 0 ∷ []; messages = None }
+
+abbrev pub hooked_replies : List Reply
+hooked_replies = replicate 3 Done

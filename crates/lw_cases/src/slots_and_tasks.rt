@@ -6,7 +6,8 @@ ghost use Rattle.lw_machine.specs.Finals.{run_final};
 ghost use Rattle.lw_cases.specs.SlotsAndTasks.{by_the_first, by_the_second, no_groups, left_with, drawn, drawn_groups};
 ghost use Rattle.lw_cases.specs.SlotsAndTasks.{drawn_row, drawn_seen, drawn_replies, arranged, arranged_row, arranged_seen};
 ghost use Rattle.lw_cases.specs.SlotsAndTasks.{beside_seen, arranged_replies, deleted, deleted_replies, refused, refused_seen};
-ghost use Rattle.lw_cases.specs.SlotsAndTasks.{refused_replies};
+ghost use Rattle.lw_cases.specs.SlotsAndTasks.{backdrop_seen, refused_replies, one_hook, with_one_hook, hooked, hooked_row};
+ghost use Rattle.lw_cases.specs.SlotsAndTasks.{hooked_seen, hooked_replies};
 
 /// The first task draws on slot 1, and the second on slot 0.
 pub fn calls_draw_on_the_slot_that_they_name()
@@ -34,8 +35,16 @@ pub fn calls_delete_the_slot_that_they_name()
 
 /// The first task is refused calls on slot 1, and the second on slot 0.
 pub fn calls_are_refused_by_the_slot_that_they_name()
-    ensures first { run_final (by_the_first refused no_groups) [] (replicate 10 0)
-        ≡ left_with (replicate 16 0) (None ∷ Some refused_seen ∷ None ∷ []) (refused_replies ∷ []) }
-    ensures second { run_final (by_the_second refused no_groups) [] (replicate 10 1)
-        ≡ left_with (replicate 16 0) (Some refused_seen ∷ None ∷ None ∷ []) ([] ∷ refused_replies ∷ []) }
+    ensures first { run_final (by_the_first refused no_groups) [] (replicate 13 0)
+        ≡ left_with (replicate 16 0) (None ∷ Some refused_seen ∷ Some backdrop_seen ∷ []) (refused_replies ∷ []) }
+    ensures second { run_final (by_the_second refused no_groups) [] (replicate 13 1)
+        ≡ left_with (replicate 16 0) (Some refused_seen ∷ None ∷ Some backdrop_seen ∷ []) ([] ∷ refused_replies ∷ []) }
+{}
+
+/// The first task replaces the hook of slot 1, and the second that of slot 0.
+pub fn calls_hook_the_slot_that_they_name()
+    ensures first { run_final (with_one_hook (by_the_first hooked no_groups)) one_hook (replicate 3 0)
+        ≡ left_with hooked_row (None ∷ Some hooked_seen ∷ None ∷ []) (hooked_replies ∷ []) }
+    ensures second { run_final (with_one_hook (by_the_second hooked no_groups)) one_hook (replicate 3 1)
+        ≡ left_with hooked_row (Some hooked_seen ∷ None ∷ None ∷ []) ([] ∷ hooked_replies ∷ []) }
 {}
