@@ -27,6 +27,7 @@ use Rattle.lw_cases.specs.Strokes.{line_of_no_length}
 use Rattle.lw_cases.specs.Stacking.{put_first, backdrop_in_front, put_behind, backdrops_created}
 use Rattle.lw_cases.specs.SuperBitmaps.{scrolls_refused, super_updated, super_uncovered, super_window, portion_clipped}
 use Rattle.lw_cases.specs.SuperBitmaps.{hidden_part_copied, hidden_part_drawn, hidden_part_painted, one_scrolled}
+use Rattle.lw_cases.specs.SuperBitmaps.{scrolled_both_ways}
 use Rattle.lw_cases.specs.Reading.{pixels_covered, fill_from_outside}
 use Rattle.lw_cases.specs.Updates.{updated_in_full, asked_after_scroll, damaged_untold, updated_in_clip}
 use Rattle.lw_cases.specs.Windows.{uncovered_again, active_title, frame_too_narrow, box_told, activated_behind}
@@ -45,7 +46,7 @@ scrolling_plans =
     clipped ∷ joined ∷ joined_to_itself ∷ filled_up ∷ scroll_past_all ∷ scroll_damage ∷ portion_scrolled ∷
     scroll_right_down ∷ scroll_masked ∷ scroll_updated ∷ scroll_in_frame ∷ scroll_from_damage ∷ scroll_by_nothing ∷
     scroll_beside_damage ∷ scrolls_refused ∷ super_updated ∷ super_uncovered ∷ super_window ∷ portion_clipped ∷
-    hidden_part_copied ∷ hidden_part_drawn ∷ hidden_part_painted ∷ one_scrolled ∷ []
+    hidden_part_copied ∷ hidden_part_drawn ∷ hidden_part_painted ∷ one_scrolled ∷ scrolled_both_ways ∷ []
 
 -- worked plans that arrange layers
 abbrev pub arranging_plans : List Plan

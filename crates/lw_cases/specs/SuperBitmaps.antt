@@ -123,3 +123,14 @@ abbrev pub one_scrolled_report : List ℕ
 one_scrolled_report =
     text (codes "order 6/0 0 0 0 0 0/planes 16 1 1/plane 0/4000/visible s 1/1 0 4 0/visible t 1/8 0 11 0/"
     ++ codes "damage s 0/damage t 0/" ++ codes "replies a 6/ok/ok/ok/ok/ok/ok/done/")
+
+-- A layer with a pixel of pen 1 in the second row of its bitmap is scrolled by columns and then by a row, so that the pixel is
+-- its first one.
+abbrev pub scrolled_both_ways : Plan
+scrolled_both_ways =
+    one_task 16 1 1 (codes "s" ∷ []) (create_super 0 0 0 3 0 8 2 ∷ fill 0 4 1 4 1 ∷ Scroll 0 (pos 4) (pos 0) ∷
+    Scroll 0 (pos 0) (pos 1) ∷ [])
+
+abbrev pub scrolled_both_ways_report : List ℕ
+scrolled_both_ways_report =
+    text (codes "order 4/0 0 0 0/planes 16 1 1/plane 0/8000/visible s 1/0 0 3 0/damage s 0/replies a 4/ok/ok/ok/ok/done/")

@@ -9,7 +9,7 @@ ghost use Rattle.lw_cases.specs.SuperBitmaps.{super_uncovered, super_uncovered_r
 ghost use Rattle.lw_cases.specs.SuperBitmaps.{portion_clipped, portion_clipped_report, hidden_part_copied};
 ghost use Rattle.lw_cases.specs.SuperBitmaps.{hidden_part_copied_report, hidden_part_drawn, hidden_part_drawn_report};
 ghost use Rattle.lw_cases.specs.SuperBitmaps.{hidden_part_painted, hidden_part_painted_report, one_scrolled};
-ghost use Rattle.lw_cases.specs.SuperBitmaps.{one_scrolled_report};
+ghost use Rattle.lw_cases.specs.SuperBitmaps.{one_scrolled_report, scrolled_both_ways, scrolled_both_ways_report};
 
 /// A portion stays in its bitmap on every side, and no other layer has one.
 pub fn portion_stays_on_every_side()
@@ -38,4 +38,9 @@ pub fn bitmap_is_drawn_on_by_its_own_coordinates()
 /// A scroll is one layer's own, and stays where the layer gets another box.
 pub fn scroll_is_its_layers_own()
     ensures { run_report one_scrolled [] (only_order one_scrolled) ≡ one_scrolled_report }
+{}
+
+/// A portion that is scrolled by columns stays there as it is scrolled by rows.
+pub fn portion_is_scrolled_both_ways()
+    ensures { run_report scrolled_both_ways [] (only_order scrolled_both_ways) ≡ scrolled_both_ways_report }
 {}
