@@ -20,13 +20,13 @@ scrolls_refused =
     one_task 16 2 1 (codes "w" ∷ codes "s" ∷ []) (create 0 Smart 0 0 3 0 ∷ create_super 1 4 0 7 0 6 2 ∷
     Scroll 0 (pos 0) (pos 0) ∷ Scroll 0 (pos 100) (pos 0) ∷ Scroll 1 (neg_ℤ (pos 1)) (pos 0) ∷
     Scroll 1 (pos 0) (neg_ℤ (pos 1)) ∷ Scroll 1 (pos 3) (pos 0) ∷ Scroll 1 (pos 0) (pos 2) ∷ Scroll 1 (pos 2) (pos 1) ∷
-    SizeBy 1 (pos 1) (pos 0) ∷ fill 1 3 1 3 1 ∷ [])
+    SizeBy 1 (pos 1) (pos 0) ∷ SizeBy 1 (pos 0) (pos 1) ∷ fill 1 3 1 3 1 ∷ [])
 
 abbrev pub scrolls_refused_report : List ℕ
 scrolls_refused_report =
-    text (codes "order 11/0 0 0 0 0 0 0 0 0 0 0/planes 16 2 1/plane 0/0400/0000/visible w 1/0 0 3 0/visible s 1/"
-    ++ codes "4 0 7 0/damage w 0/damage s 0/" ++ codes "replies a 11/ok/ok/not-super/not-super/"
-    ++ codes "out-of-bounds/out-of-bounds/out-of-bounds/out-of-bounds/ok/out-of-bounds/ok/done/")
+    text (codes "order 12/0 0 0 0 0 0 0 0 0 0 0 0/planes 16 2 1/plane 0/0400/0000/visible w 1/0 0 3 0/visible s 1/"
+    ++ codes "4 0 7 0/damage w 0/damage s 0/" ++ codes "replies a 12/ok/ok/not-super/not-super/"
+    ++ codes "out-of-bounds/out-of-bounds/out-of-bounds/out-of-bounds/ok/out-of-bounds/out-of-bounds/ok/done/")
 
 -- within an update, in which nothing is damaged and so nothing drawable
 abbrev pub super_updated : Plan
