@@ -21,7 +21,7 @@ use Rattle.lw_cases.specs.Refusals.{refused_calls, backdrop_closed, first_causes
 use Rattle.lw_cases.specs.Registers.{clipped, joined, joined_to_itself, filled_up}
 use Rattle.lw_cases.specs.Scrolling.{scroll_past_all, scroll_damage, portion_scrolled, scroll_right_down, scroll_masked}
 use Rattle.lw_cases.specs.Scrolling.{scroll_updated, scroll_in_frame, scroll_from_damage, scroll_by_nothing}
-use Rattle.lw_cases.specs.Scrolling.{scroll_beside_damage}
+use Rattle.lw_cases.specs.Scrolling.{scroll_beside_damage, scroll_in_column}
 use Rattle.lw_cases.specs.SlotsAndTasks.{by_the_second, no_groups, drawn, drawn_groups, arranged, hooked, with_one_hook}
 use Rattle.lw_cases.specs.Strokes.{line_of_no_length}
 use Rattle.lw_cases.specs.Stacking.{put_first, backdrop_in_front, put_behind, backdrops_created}
@@ -45,7 +45,7 @@ abbrev pub scrolling_plans : List Plan
 scrolling_plans =
     clipped ∷ joined ∷ joined_to_itself ∷ filled_up ∷ scroll_past_all ∷ scroll_damage ∷ portion_scrolled ∷
     scroll_right_down ∷ scroll_masked ∷ scroll_updated ∷ scroll_in_frame ∷ scroll_from_damage ∷ scroll_by_nothing ∷
-    scroll_beside_damage ∷ scrolls_refused ∷ super_updated ∷ super_uncovered ∷ super_window ∷ portion_clipped ∷
+    scroll_beside_damage ∷ scroll_in_column ∷ scrolls_refused ∷ super_updated ∷ super_uncovered ∷ super_window ∷ portion_clipped ∷
     hidden_part_copied ∷ hidden_part_drawn ∷ hidden_part_painted ∷ one_scrolled ∷ scrolled_both_ways ∷ []
 
 -- worked plans that arrange layers

@@ -128,6 +128,17 @@ scroll_by_nothing_report =
     text (codes "order 5/0 0 0 0 0/planes 16 1 1/plane 0/f000/visible s 1/0 0 3 0/damage s 1/0 0 1 0/"
     ++ codes "replies a 5/ok/ok/ok/ok/ok/done/")
 
+-- a layer of one column, of which the last of three rows is damaged, scrolled by nothing
+abbrev pub scroll_in_column : Plan
+scroll_in_column =
+    one_task 16 3 1 (codes "s" ∷ codes "c" ∷ []) (create 0 Simple 0 0 0 2 ∷ create 1 Smart 0 2 0 2 ∷ Close 1 ∷
+    scroll_left 0 0 0 0 0 2 ∷ [])
+
+abbrev pub scroll_in_column_report : List ℕ
+scroll_in_column_report =
+    text (codes "order 4/0 0 0 0/planes 16 3 1/plane 0/0000/0000/0000/visible s 1/0 0 0 2/damage s 1/0 2 0 2/"
+    ++ codes "replies a 4/ok/ok/ok/ok/done/")
+
 -- a layer of which two columns are damaged, and others are scrolled
 abbrev pub scroll_beside_damage : Plan
 scroll_beside_damage =

@@ -10,6 +10,7 @@ ghost use Rattle.lw_cases.specs.Scrolling.{scroll_damage_report, portion_scrolle
 ghost use Rattle.lw_cases.specs.Scrolling.{scroll_right_down_report, scroll_masked, scroll_masked_report, scroll_updated};
 ghost use Rattle.lw_cases.specs.Scrolling.{scroll_updated_report, scroll_in_frame, scroll_in_frame_report, scroll_from_damage};
 ghost use Rattle.lw_cases.specs.Scrolling.{scroll_from_damage_report, scroll_by_nothing, scroll_by_nothing_report};
+ghost use Rattle.lw_cases.specs.Scrolling.{scroll_in_column, scroll_in_column_report};
 
 /// What is scrolled in from outside the rectangle has pen B, and keeps the damage that the pixel had.
 pub fn scroll_past_all_shows_pen_b()
@@ -40,4 +41,5 @@ pub fn scroll_moves_damage()
     ensures in_frame { run_report scroll_in_frame [] (only_order scroll_in_frame) ≡ scroll_in_frame_report }
     ensures from_damage { run_report scroll_from_damage [] (only_order scroll_from_damage) ≡ scroll_from_damage_report }
     ensures by_nothing { run_report scroll_by_nothing [] (only_order scroll_by_nothing) ≡ scroll_by_nothing_report }
+    ensures in_column { run_report scroll_in_column [] (only_order scroll_in_column) ≡ scroll_in_column_report }
 {}
