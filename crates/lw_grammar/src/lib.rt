@@ -9,6 +9,9 @@ mod reason;
 mod verb;
 
 pub use form::Form;
-pub use laws::{inputs_are_decided, reading_fails_at_first_bad_lines, reading_gives_spelled_inputs, spelled_inputs_are_runnable};
+pub use laws::{
+    inputs_are_decided, reading_fails_at_first_bad_lines, reading_gives_spelled_inputs,
+    spelled_inputs_are_runnable,
+};
 pub use reason::Reason;
 pub use verb::{BareVerb, GzzVerb, NumberVerb, PairVerb, PartVerb, TextVerb, Verb};

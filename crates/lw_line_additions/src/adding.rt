@@ -131,7 +131,10 @@ fn add_release(reader: &mut Reader<'_>) -> Result<(), AllocError>
 }
 
 /// Adds a name that stands on a line without a call.
-pub(crate) fn add_name_without_slot<'a>(reader: &mut Reader<'a>, name: &'a [u8]) -> Result<(), AllocError>
+pub(crate) fn add_name_without_slot<'a>(
+    reader: &mut Reader<'a>,
+    name: &'a [u8],
+) -> Result<(), AllocError>
     ensures { (s : Setting) (above : List StatementValue) → Represents s reader.old above
         → OnOk result (Represents s reader.new (NameWithoutSlot name.entry.now ∷ above)) }
 {
