@@ -1,4 +1,6 @@
 use lw_backfill::{Backfill, Checker, Cycle, Solid};
+use std::alloc::Global;
+use std::process::Abort;
 use std::test::Fail;
 
 // Pixels by column and row, also left of a layer's first one, above it and further off than a tile, each with the pen that a
@@ -23,22 +25,29 @@ fn are_pens(hooks: &[Box<dyn Backfill + Send>], x: i32, y: i32, pens: &[u8]) -> 
     hooks.len() == pens.len()
 }
 
+// At each pixel the hooks have the pens 7, that of the checker, and this one.
+fn assert_pens<R: Abort>(rt: &R, hooks: &[Box<dyn Backfill + Send>], pen: u8) {
+    for (x, y, field) in &PIXELS {
+        let same = are_pens(hooks, *x, *y, &[7, *field, pen]);
+        assert!(rt; same, "column {x}, row {y}");
+    }
+}
+
+// Three pens.
+fn cycle(alloc: Global) -> Result<Cycle, Fail> {
+    Ok(Cycle::new(vec![in alloc; 1, 2, 255]?).ok_or("no pens")?)
+}
+
 #[test]
 fn boxed_hooks_have_their_pens_and_turn(rt: HostRuntime) -> Result<(), Fail> {
     let alloc = rt.alloc();
     let mut hooks: Vec<Box<dyn Backfill + Send>> = Vec::new(alloc);
     hooks.push(Box::new(alloc, Solid::new(7))?)?;
     hooks.push(Box::new(alloc, Checker::new(2, 3))?)?;
-    let cycle = Cycle::new(vec![in alloc; 1, 2, 255]?).ok_or("no pens")?;
-    hooks.push(Box::new(alloc, cycle)?)?;
+    hooks.push(Box::new(alloc, cycle(alloc)?)?)?;
     // The cycle goes from its last tile to its first.
-    for pen in [1, 2, 255, 1, 2] {
-        for (x, y, field) in &PIXELS {
-            assert!(rt;
-                are_pens(&hooks, *x, *y, &[7, *field, pen]),
-                "column {x}, row {y}"
-            );
-        }
+    for pen in &[1, 2, 255, 1, 2] {
+        assert_pens(&rt, &hooks, *pen);
         for held in &mut hooks {
             held.turned();
         }

@@ -60,21 +60,36 @@ fn count_written(
     Ok((answer, TEXT.starts_with(sink.bytes()), sink.bytes().len()))
 }
 
+// A source of the five bytes that moves two a call, and whose call with this number fails.
+fn faulty(alloc: Global, fails: u32) -> Result<MemSource, AllocError> {
+    let fails = Vec::from_slice(alloc, &[fails])?;
+    Ok(MemSource::new(Vec::from_slice(alloc, TEXT)?, 2, fails))
+}
+
+// How many bytes are read to the end.
+fn count_read(alloc: Global, source: &mut MemSource) -> Result<usize, ReadStop> {
+    match read_all(alloc, source, 9) {
+        Ok(bytes) => Ok(bytes.len()),
+        Err(stop) => Err(stop),
+    }
+}
+
+// The read that fails, and how many bytes are behind it.
+static BEHIND: [(u32, usize); 4] = [(0, 5), (1, 3), (2, 1), (3, 0)];
+
 #[test]
 fn fault_is_answered_and_not_read_past(rt: HostRuntime) -> Result<(), Fail> {
     let alloc = rt.alloc();
-    for (fails, behind) in [(0, 5), (1, 3), (2, 1), (3, 0)] {
-        let fails = Vec::from_slice(alloc, &[fails])?;
-        let mut source = MemSource::new(Vec::from_slice(alloc, TEXT)?, 2, fails);
-        let answer = read_all(alloc, &mut source, 9);
+    for (fails, behind) in BEHIND.iter() {
+        let mut source = faulty(alloc, *fails)?;
+        let answer = count_read(alloc, &mut source);
         assert_eq!(rt;
-            answer.err(),
-            Some(ReadStop::Fault),
+            answer,
+            Err(ReadStop::Fault),
             "{behind} bytes behind the fault"
         );
         // The bytes behind the fault are all there for the next call, in which no read fails.
-        let rest = read_all(alloc, &mut source, 9);
-        assert_eq!(rt; rest.map(|bytes| bytes.len()), Ok(behind));
+        assert_eq!(rt; count_read(alloc, &mut source), Ok(*behind));
     }
     Ok(())
 }
@@ -83,10 +98,9 @@ fn fault_is_answered_and_not_read_past(rt: HostRuntime) -> Result<(), Fail> {
 fn want_of_memory_is_not_answered_in_place_of_a_fault(rt: HostRuntime) -> Result<(), Fail> {
     let alloc = rt.alloc();
     for fails in 0..4 {
-        let fails = Vec::from_slice(alloc, &[fails])?;
-        let mut source = MemSource::new(Vec::from_slice(alloc, TEXT)?, 2, fails);
-        let first = read_all(alloc, &mut source, 9).err() == Some(ReadStop::Fault);
-        let second = read_all(alloc, &mut source, 9).err() == Some(ReadStop::Fault);
+        let mut source = faulty(alloc, fails)?;
+        let first = count_read(alloc, &mut source) == Err(ReadStop::Fault);
+        let second = count_read(alloc, &mut source) == Err(ReadStop::Fault);
         // A call that stops for want of memory, where an allocation fails, hasn't met the fault, and
         // leaves it to the next call.
         assert!(rt; first != second);
@@ -94,24 +108,27 @@ fn want_of_memory_is_not_answered_in_place_of_a_fault(rt: HostRuntime) -> Result
     Ok(())
 }
 
+// A sink's room, how many bytes a call moves, the call that fails, the answer, and how many bytes there are then.
+static WRITTEN: [(u8, u8, u32, Result<(), Failed>, usize); 9] = [
+    (9, 1, 0, Err(Failed), 0),
+    (9, 1, 2, Err(Failed), 2),
+    (9, 1, 4, Err(Failed), 4),
+    (9, 1, 5, Ok(()), 5),
+    (9, 2, 1, Err(Failed), 2),
+    (9, 7, 1, Ok(()), 5),
+    (5, 2, 3, Ok(()), 5),
+    (3, 2, 9, Err(Failed), 3),
+    (0, 1, 9, Err(Failed), 0),
+];
+
 #[test]
 fn sink_holds_what_was_written_before_the_fault(rt: HostRuntime) -> Result<(), Fail> {
-    for (room, step, fails, answer, count) in [
-        (9, 1, 0, Err(Failed), 0),
-        (9, 1, 2, Err(Failed), 2),
-        (9, 1, 4, Err(Failed), 4),
-        (9, 1, 5, Ok(()), 5),
-        (9, 2, 1, Err(Failed), 2),
-        (9, 7, 1, Ok(()), 5),
-        (5, 2, 3, Ok(()), 5),
-        (3, 2, 9, Err(Failed), 3),
-        (0, 1, 9, Err(Failed), 0),
-    ] {
-        assert!(rt; step > 0);
-        let got = count_written(rt.alloc(), room, step, fails)?;
+    for (room, step, fails, answer, count) in WRITTEN.iter() {
+        assert!(rt; *step > 0);
+        let got = count_written(rt.alloc(), *room, *step, *fails)?;
         assert_eq!(rt;
             got,
-            (answer, true, count),
+            (*answer, true, *count),
             "room {room}, step {step}, fails at {fails}"
         );
     }

@@ -7,9 +7,10 @@ ghost use Rattle.lw_kernels.specs.Kernel.{is_named};
 
 use lw_kernels::{combine, combine_within, fill, flip};
 use lw_planes::Planes;
+use std::process::Abort;
 use std::test::Fail;
 
-const COUNTS: [u32; 8] = [0, 1, 7, 8, 9, 63, 64, 65];
+static COUNTS: [u32; 8] = [0, 1, 7, 8, 9, 63, 64, 65];
 
 // Two rows of ten bytes without a pattern.
 const LEFT: [u8; 10] = [0x3a, 0xc5, 0x0f, 0x96, 0xe1, 0x58, 0x07, 0xbc, 0x6d, 0xf2];
@@ -84,56 +85,66 @@ fn combine_within_reads_the_bits_before_the_call(rt: HostRuntime) {
     assert_eq!(rt; row.as_slice(), [0xe0, 0].as_slice());
 }
 
+// After the two calls of `combine` each bit that they name has the minterm's value, and each other one is as it was.
+fn assert_combined<R: Abort>(rt: &R, right: &[u8; 10], left: &[u8; 10], offset: u32, count: u32)
+    requires offset { offset < 9 }
+    requires count { count ≤ 65 }
+{
+    for x in 0..80 {
+        let old = bit(&LEFT, x);
+        let mut want = (old, old);
+        if offset <= x && x < offset + count {
+            want.0 = minterm_value(0x60, bit(&RIGHT, x - offset + 3), old);
+        }
+        if 5 <= x && x < 5 + count {
+            want.1 = minterm_value(0xb0, bit(&RIGHT, x - 5 + offset), old);
+        }
+        let found = (bit(right, x), bit(left, x));
+        assert_eq!(rt; found, want, "bit {x} of {count} at {offset}");
+    }
+}
+
 #[test]
 fn combine_changes_the_named_bits_alone(rt: HostRuntime) {
     for offset in 0..9 {
-        for count in COUNTS {
-            assert!(rt; count <= 65);
+        for count in COUNTS.iter() {
+            assert!(rt; *count <= 65);
             let (mut right, mut left) = (LEFT, LEFT);
-            combine(&mut right, offset, &RIGHT, 3, count, 0x60);
-            combine(&mut left, 5, &RIGHT, offset, count, 0xb0);
-            for x in 0..80 {
-                let old = bit(&LEFT, x);
-                let mut want = (old, old);
-                if offset <= x && x < offset + count {
-                    want.0 = minterm_value(0x60, bit(&RIGHT, x - offset + 3), old);
-                }
-                if 5 <= x && x < 5 + count {
-                    want.1 = minterm_value(0xb0, bit(&RIGHT, x - 5 + offset), old);
-                }
-                assert_eq!(rt;
-                    (bit(&right, x), bit(&left, x)),
-                    want,
-                    "bit {x} of {count} at {offset}"
-                );
-            }
+            combine(&mut right, offset, &RIGHT, 3, *count, 0x60);
+            combine(&mut left, 5, &RIGHT, offset, *count, 0xb0);
+            assert_combined(&rt, &right, &left, offset, *count);
         }
+    }
+}
+
+// After the two calls of `combine_within` the bits that they name are moved, or combined with those that they name too.
+fn assert_moved<R: Abort>(rt: &R, right: &[u8; 10], left: &[u8; 10], offset: u32, count: u32)
+    requires offset { offset < 9 }
+    requires count { count ≤ 65 }
+{
+    for x in 0..80 {
+        let old = bit(&LEFT, x);
+        let mut want = (old, old);
+        if offset + 4 <= x && x < offset + 4 + count {
+            want.0 = bit(&LEFT, x - 4);
+        }
+        if offset <= x && x < offset + count {
+            want.1 = bit(&LEFT, x + 4) != old;
+        }
+        let found = (bit(right, x), bit(left, x));
+        assert_eq!(rt; found, want, "bit {x} of {count} at {offset}");
     }
 }
 
 #[test]
 fn combine_within_in_both_directions(rt: HostRuntime) {
     for offset in 0..9 {
-        for count in COUNTS {
-            assert!(rt; count <= 65);
+        for count in COUNTS.iter() {
+            assert!(rt; *count <= 65);
             let (mut right, mut left) = (LEFT, LEFT);
-            combine_within(&mut right, offset + 4, offset, count, 0xc0);
-            combine_within(&mut left, offset, offset + 4, count, 0x60);
-            for x in 0..80 {
-                let old = bit(&LEFT, x);
-                let mut want = (old, old);
-                if offset + 4 <= x && x < offset + 4 + count {
-                    want.0 = bit(&LEFT, x - 4);
-                }
-                if offset <= x && x < offset + count {
-                    want.1 = bit(&LEFT, x + 4) != old;
-                }
-                assert_eq!(rt;
-                    (bit(&right, x), bit(&left, x)),
-                    want,
-                    "bit {x} of {count} at {offset}"
-                );
-            }
+            combine_within(&mut right, offset + 4, offset, *count, 0xc0);
+            combine_within(&mut left, offset, offset + 4, *count, 0x60);
+            assert_moved(&rt, &right, &left, offset, *count);
         }
     }
 }

@@ -83,6 +83,23 @@ fn assert_each_once(rt: &impl Abort, tickets: &mut [u64]) {
     }
 }
 
+// Two seats drew a thousand tickets each.
+fn assert_both(
+    rt: &impl Abort,
+    mine: Result<Vec<u64>, AllocError>,
+    theirs: Result<Vec<u64>, AllocError>,
+) -> Result<(), AllocError> {
+    let mut tickets = mine?;
+    let theirs = theirs?;
+    assert_eq!(rt; tickets.len(), 1000);
+    assert_eq!(rt; theirs.len(), 1000);
+    assert_rising(rt, tickets.as_slice());
+    assert_rising(rt, theirs.as_slice());
+    tickets.extend_from_slice(theirs.as_slice())?;
+    assert_each_once(rt, tickets.as_mut_slice());
+    Ok(())
+}
+
 #[test]
 fn two_threads_draw_each_number_once(rt: HostRuntime) -> Result<(), Fail> {
     let alloc = rt.alloc();
@@ -97,14 +114,7 @@ fn two_threads_draw_each_number_once(rt: HostRuntime) -> Result<(), Fail> {
             requires { (second.word ≡ shared.now.word) × Contains second.roles (Role.Task 1) × (count_of 1 second.history ≡ 0) }
         { stamp_many(alloc, shared, second, 1, 1000) },
     );
-    let mut tickets = mine?;
-    let theirs = theirs?;
-    assert_eq!(rt; tickets.len(), 1000);
-    assert_eq!(rt; theirs.len(), 1000);
-    assert_rising(&rt, tickets.as_slice());
-    assert_rising(&rt, theirs.as_slice());
-    tickets.extend_from_slice(theirs.as_slice())?;
-    assert_each_once(&rt, tickets.as_mut_slice());
+    assert_both(&rt, mine, theirs)?;
     Ok(())
 }
 
@@ -137,6 +147,23 @@ fn split_all(
     Ok(jobs)
 }
 
+// Eight seats drew a hundred tickets each.
+fn assert_eight(
+    rt: &(impl Abort + AllocGlobal),
+    drawn: Vec<Result<Vec<u64>, AllocError>>,
+) -> Result<(), AllocError> {
+    let mut tickets = Vec::new(rt.alloc());
+    for own in drawn {
+        let own = own?;
+        assert_eq!(rt; own.len(), 100);
+        assert_rising(rt, own.as_slice());
+        tickets.extend_from_slice(own.as_slice())?;
+    }
+    assert_eq!(rt; tickets.len(), 800);
+    assert_each_once(rt, tickets.as_mut_slice());
+    Ok(())
+}
+
 #[test]
 fn eight_threads_draw_each_number_once(rt: HostRuntime) -> Result<(), Fail> {
     let alloc = rt.alloc();
@@ -154,14 +181,6 @@ fn eight_threads_draw_each_number_once(rt: HostRuntime) -> Result<(), Fail> {
             stamp_many(alloc, shared, seat, task, 100)
         },
     )?;
-    let mut tickets = Vec::new(alloc);
-    for own in drawn {
-        let own = own?;
-        assert_eq!(rt; own.len(), 100);
-        assert_rising(&rt, own.as_slice());
-        tickets.extend_from_slice(own.as_slice())?;
-    }
-    assert_eq!(rt; tickets.len(), 800);
-    assert_each_once(&rt, tickets.as_mut_slice());
+    assert_eight(&rt, drawn)?;
     Ok(())
 }
