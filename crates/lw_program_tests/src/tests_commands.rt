@@ -173,12 +173,12 @@ fn check_writes_the_canonical_text(rt: HostRuntime) -> Result<(), Fail> {
 }
 
 #[test]
-fn commands_are_calls_of_their_own(rt: HostRuntime) -> Result<(), Fail> {
+fn what_a_command_leaves_of_its_source_is_an_input_of_its_own(rt: HostRuntime) -> Result<(), Fail> {
     let alloc = rt.alloc();
     let (mut source, mut full) = streams_of(alloc, FIRST_FILL, (50, 1), (10, 4, NEVER))?;
     let status = check(alloc, &mut source, &mut full, 0);
     assert_answer(&rt, (status, full.bytes()), Status::ReadFault, b"");
-    // What is left is an input of its own, whose first line is a bad one.
+    // What is left begins with a bad line.
     let status = check(alloc, &mut source, &mut full, 0);
     assert_answer(
         &rt,

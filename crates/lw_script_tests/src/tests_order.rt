@@ -66,7 +66,7 @@ fn an_order_is_read_from_the_head_of_a_report(rt: HostRuntime) -> Result<(), Fai
     Ok(())
 }
 
-// The head of a report of 65 calls, without the last two numbers and what stands between and behind them.
+// The head of a report of 65 calls: its first 63 numbers, and then this.
 fn sevens(alloc: Global, end: &[u8]) -> Result<Vec<u8>, AllocError> {
     let mut text = Vec::from_slice(alloc, b"order 65\n")?;
     for _number in 0..63 {
