@@ -6,7 +6,7 @@
 It makes a fresh clone of the repository's last commit in a temporary folder and runs `rt ci --anew` there, with these crates and
 those below or, without names, with all. Each second it looks which crates are being checked. Then it prints the last lines of what
 `rt ci` said, the time of the whole, when the last proof and the last test ended, the sums, and a table of minutes: of each crate's
-proof, of its tests, and of its edits that must fail with the check that they begin with. So the run is to be alone on the machine."""
+proof, of its tests, and of its edits that must fail with the check that they begin with. So no other check may run on the machine."""
 import collections
 import os
 import subprocess
@@ -15,8 +15,8 @@ import tempfile
 import time
 
 
-def checks(clone):
-    """The crates that are being checked, each with its kind."""
+def checks():
+    """The crates that are being checked on this machine, each with its kind."""
     found = set()
     for number in filter(str.isdigit, os.listdir("/proc")):
         try:
@@ -27,9 +27,8 @@ def checks(clone):
         if os.path.basename(words[0]) != "rattle" or "--crate-name" not in words:
             continue
         is_edit = os.path.basename(place).startswith("rt-edit-")
-        if is_edit or place.startswith(clone):
-            kind = "edits" if is_edit else "tests" if "--test" in words else "proof"
-            found.add((kind, words[words.index("--crate-name") + 1]))
+        kind = "edits" if is_edit else "tests" if "--test" in words else "proof"
+        found.add((kind, words[words.index("--crate-name") + 1]))
     return found
 
 
@@ -42,7 +41,7 @@ def run(clone, names):
         while gate.poll() is None:
             time.sleep(1)
             now = time.monotonic()
-            for check in checks(clone):
+            for check in checks():
                 seconds[check] += now - then
                 ends[check[0]] = now - before
             then = now
