@@ -131,15 +131,15 @@ joins_seats sizes words views seat v other w (whole, k) at apart there =
       },
     )
 
--- the load after a join, which leaves the word
+-- the load after a join, of a word that stays 0
 pub learns : (sizes : Sizes) (words : List ℕ) (views : List View) (seat : ℕ) (v : View) (known : Sizes) → sizes ≡ known → KeepsOrder sizes words views → get_elem? views seat ≡ some v
-    → KeepsOrder sizes (set words 8 (slice_index words 8)) (set views seat (view_of v.history v.roles)) × Learned known v (view_of v.history v.roles)
+    → KeepsOrder sizes (set words 0 (slice_index words 0)) (set views seat (view_of v.history v.roles)) × Learned known v (view_of v.history v.roles)
 learns sizes words views seat v known same (whole, k) at =
     let mine = k.stands seat v at in (
       (
         whole,
         record {
-          word = ap (λ ws. set ws 8 (slice_index ws 8)) k.word;
+          word = ap (λ ws. set ws 0 (slice_index ws 0)) k.word;
           stands = stands_set sizes whole views seat (view_of v.history v.roles) (λ j u apart e. k.stands j u e) (stands_alone sizes whole v.roles v.history mine.follows mine.roles_fit mine.once);
           held_once = held_once_set views seat v (view_of v.history v.roles) k.held_once at (λ role h. h);
           numbered = k.numbered;

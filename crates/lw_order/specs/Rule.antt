@@ -33,8 +33,8 @@ HeldOnce views =
     (i j : ℕ) (v w : View) (role : Role) → get_elem? views i ≡ some v → get_elem? views j ≡ some w → Contains v.roles role
     → Contains w.roles role → i ≡ j
 
--- The words that an order word lies among, of which it alone is used: eight on each side, or seven, so that nothing else that is
--- written lies in its cache line.
+-- The words that an order word lies among, of which it alone is written: eight on each side, or seven, so that nothing else that
+-- is written lies in its cache line.
 abbrev pub with_word : ℕ → List ℕ
 with_word n = 0 ∷ 0 ∷ 0 ∷ 0 ∷ 0 ∷ 0 ∷ 0 ∷ 0 ∷ n ∷ 0 ∷ 0 ∷ 0 ∷ 0 ∷ 0 ∷ 0 ∷ 0 ∷ []
 

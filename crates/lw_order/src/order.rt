@@ -16,8 +16,13 @@ use lw_calls::{Call, Role, Sizes};
 use std::alloc::{AllocError, Global};
 use std::marker::{Brand, Model};
 
-// Which of the sixteen words is used: the eight before it and the seven behind keep its cache line free of all else that is written.
+// Which of the sixteen words holds the length: the eight before it and the seven behind keep its cache line free of all else that
+// is written.
 const WORD: usize = 8;
+
+// The word that is loaded to learn what seats know of one another. What is learned holds whatever it is, so it is one that nobody
+// writes, at least a cache line before the length: no other processor takes it away.
+const STILL: usize = 0;
 
 /// One atomic word, the length of the history. Contracts see which word it is, and for which sizes.
 #[derive(Drop)]
@@ -105,7 +110,7 @@ impl Order {
         ensures slots { token.new.me.1 ≡ [] }
         ensures learned { Learned N.sizes token.old.me.0 token.new.me.0 }
     {
-        self.table.shared.load::<Learn<N>>(token, WORD);
+        self.table.shared.load::<Learn<N>>(token, STILL);
     }
 
     /// Stamps a call of a task, which is a number from 0 on: the call is then the last step of the history that the seat knows,
