@@ -14,6 +14,8 @@ IsPrepared from to Stays = to ≡ from
 IsPrepared from to Closes =
     (from.state ≡ view.Live) × (to ≡ record { number = from.number; state = view.Closed; live = no_layer })
 IsPrepared from to (Opens d) =
-    (from.state ≡ view.Live → ⊥) × IsLiveDraft d × (to ≡ record { number = from.number; state = view.Live; live = live_view d })
+    (from.state ≡ view.Live → ⊥) × IsLiveDraft d.value
+    × (to ≡ record { number = from.number; state = view.Live; live = live_view d.value })
 IsPrepared from to (Changes k) =
-    (from.state ≡ view.Live) × IsChange from.live k × (to ≡ with_live (λ c. carried_to k.bounds k.parts.visible c) from)
+    (from.state ≡ view.Live) × IsChange from.live k.value
+    × (to ≡ with_live (λ c. carried_to k.value.bounds k.value.parts.visible c) from)

@@ -47,7 +47,7 @@ impl Prepared {
     }
 }
 
-/// What is ready to be made of one cell.
+/// What is ready to be made of one cell. What is large is boxed, since most cells stay as they are and this is moved about.
 #[derive(Debug, Drop)]
 pub enum Becomes {
     /// The cell stays as it is.
@@ -55,9 +55,9 @@ pub enum Becomes {
     /// The layer is deleted.
     Closes,
     /// The layer is created.
-    Opens(LiveDraft),
+    Opens(Box<LiveDraft>),
     /// The layer has other bounds, or another part of it is visible.
-    Changes(Change),
+    Changes(Box<Change>),
 }
 
 /// Prepares the cell of a slot for the arrangement, outside whose area the cell has to show what the plan says. It takes all the
@@ -152,7 +152,7 @@ fn created(
     match arrangement.call() {
         Call::Create { make, .. } => {
             let draft = LiveDraft::new(alloc, make, depth, bounds, visible, None)?;
-            Ok(Becomes::Opens(draft))
+            Ok(Becomes::Opens(Box::new(alloc, draft)?))
         }
         Call::OpenWindow {
             make,
@@ -164,7 +164,7 @@ fn created(
         } => {
             let window = opened_window(alloc, arrangement.task(), *framed, *nocare, *asks, title)?;
             let draft = LiveDraft::new(alloc, make, depth, bounds, visible, Some(window))?;
-            Ok(Becomes::Opens(draft))
+            Ok(Becomes::Opens(Box::new(alloc, draft)?))
         }
         _ => unreachable!(),
     }
@@ -219,7 +219,8 @@ fn changed(
     let Some(visible) = changed_visible(alloc, cell, layer, arrangement, bounds)? else {
         return Ok(Becomes::Stays);
     };
-    Ok(Becomes::Changes(lw_reveal::prepare(alloc, layer, bounds, &visible)?))
+    let change = lw_reveal::prepare(alloc, layer, bounds, &visible)?;
+    Ok(Becomes::Changes(Box::new(alloc, change)?))
 }
 
 /// Puts the strips that the cell loses into the pool, which has room for them.
@@ -258,8 +259,8 @@ pub fn turn_into(cell: &mut Cell, becomes: Becomes)
     match becomes {
         Becomes::Stays => {}
         Becomes::Closes => replace(cell, DraftState::Closed),
-        Becomes::Opens(draft) => replace(cell, DraftState::Live(draft)),
-        Becomes::Changes(change) => apply(cell, change),
+        Becomes::Opens(draft) => replace(cell, DraftState::Live(Box::into_inner(draft))),
+        Becomes::Changes(change) => apply(cell, Box::into_inner(change)),
     }
 }
 

@@ -1,5 +1,6 @@
 -- What is ready for a slot makes of it what the arrangement says.
 use Rattle.std.proofs.Common.{◌≡◌, ℕ, zero, suc, ◌+◌, ◌*◌, ◌==◌, Bool, true, false, not, ◌&&◌, ◌||◌, ℤ, pos, List, [], ◌∷◌, length, get_or, replicate, Option, Some, None, refl, sym, ap, subst, ◌∙◌, arith}
+use Rattle.std.specs.Global.{Box}
 use Rattle.std.proofs.lemmas.Bool.Decides.{nat_tests}
 use Rattle.std.proofs.Math.Path.{fun_ext}
 use Rattle.std.proofs.lemmas.Nat.{pow_pos}
@@ -227,7 +228,7 @@ ready_settled glyphs a shelf c p gained w may sound ready filled after = by_case
         (sym right ∙ (ap (filled_from b h) cell ∙ new_filled a c r k.make k.window depth h idle place))
         (new_undamaged a c r k.make k.window depth h idle place))
 
-    opened : (r : Rectangle) (d : LiveDraft) → IsPrepared b e (Opens d) → bounds_at a.stack.bounds n ≡ Some r
+    opened : (r : Rectangle) (d : Box LiveDraft) → IsPrepared b e (Opens d) → bounds_at a.stack.bounds n ≡ Some r
         → MayOpen (created_by a.task a.call) a.stack.sizes.depth r → IsSettledBy glyphs c (slot_after glyphs a shelf c) gained h w (Opens d)
     opened r d ready bounds may_open = (
       ready.0,

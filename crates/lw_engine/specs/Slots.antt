@@ -134,16 +134,17 @@ IsSettledBy glyphs from to gained taken w Stays = IsStill glyphs from to w from.
 IsSettledBy glyphs from to gained taken w Closes =
     (from.state ≡ view.Live) × (to ≡ record { number = from.number; state = view.Closed; live = no_layer })
 IsSettledBy glyphs from to gained taken w (Opens d) =
-    (from.state ≡ view.Live → ⊥) × IsLiveDraft d
+    (from.state ≡ view.Live → ⊥) × IsLiveDraft d.value
     × (to ≡ record {
       number = from.number;
       state = view.Live;
-      live = with_own_frame glyphs false (filled_as taken gained (live_view d));
+      live = with_own_frame glyphs false (filled_as taken gained (live_view d.value));
     })
 IsSettledBy glyphs from to gained taken w (Changes k) =
-    (from.state ≡ view.Live) × HasRoom 5 from × IsChange (bare from).live k × (q : Across) × IsDone q w.change
+    (from.state ≡ view.Live) × HasRoom 5 from × IsChange (bare from).live k.value × (q : Across) × IsDone q w.change
     × (to ≡ with_live
-    (λ c. followed glyphs w q (filled_as (hook_in from) gained (carried_to k.bounds k.parts.visible c))) (bare from))
+    (λ c. followed glyphs w q (filled_as (hook_in from) gained (carried_to k.value.bounds k.value.parts.visible c)))
+    (bare from))
 
 abbrev pub IsSettled : List (List ℕ) → CellView → CellView → ReadyView → Type 0
 IsSettled glyphs from to r = IsSettledBy glyphs from to r.gained r.taken r.window r.prepared

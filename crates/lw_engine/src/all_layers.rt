@@ -34,7 +34,6 @@ use lw_layer::Look;
 use lw_stack::Info;
 use lw_strips::{Piece, Pool};
 use std::alloc::{AllocError, Global};
-use std::mem;
 
 /// Makes a call on all slots, which are given in rising number, with LayerInfo and the shelf of hooks, as the machine's step says
 /// of every desk to which this was handed in. An arrangement is planned, room is reserved in each window's port, everything is
@@ -424,6 +423,5 @@ fn settle_one<B: Backfill>(
     ensures numbers { (r : Rectangle) → copies_in r pool.old.strips ≡ copies_in r pool.new.strips + copies r ready.old.claims }
 {
     let place = ready.slot() as usize;
-    let ready = mem::replace(ready, Ready::stays(alloc));
     slots[place].settle(alloc, assets, ready, pool);
 }

@@ -19,7 +19,7 @@ ghost use Rattle.lw_arrange.specs.Prepared.{cell_after, MayPrepare};
 ghost use Rattle.lw_arrange.specs.Areas.{IsShownElsewhere};
 ghost use Rattle.lw_arrange.specs.Filled.{AreGained};
 ghost use Rattle.lw_engine.specs.Desks.{hook_at};
-ghost use Rattle.lw_engine.specs.Slots.{asked_hook, bare, filled_as, followed, hook_in, nothing_ready, IsStill, IsSettled};
+ghost use Rattle.lw_engine.specs.Slots.{asked_hook, bare, filled_as, followed, hook_in, IsStill, IsSettled};
 ghost use Rattle.lw_engine.specs.Slots.{IsReadyFor, MayBeReady};
 
 use crate::slot::Slot;
@@ -35,6 +35,7 @@ use lw_reveal::Change;
 use lw_strips::Pool;
 use std::alloc::{AllocError, Global};
 use std::marker::Model;
+use std::mem;
 
 /// What is ready to be made of one slot: what was prepared for its cell, the pieces that it loses and gains, the pixels that are
 /// then filled, the hook that a new layer takes from the shelf, and what becomes of the window of a layer that stays live.
@@ -66,20 +67,6 @@ impl<B: Backfill> Model for Ready<B> {
 }
 
 impl<B: Backfill> Ready<B> {
-    /// Nothing is ready: this stands where what was ready has been taken.
-    pub(crate) fn stays(alloc: Global) -> Ready<B>
-        ensures { result ≡ nothing_ready }
-    {
-        Ready {
-            slot: 0,
-            prepared: Becomes::Stays,
-            exchange: Exchange::none(alloc),
-            gained: Region::new(alloc),
-            taken: None,
-            window: WindowAfter::none(),
-        }
-    }
-
     /// The slot's number.
     pub(crate) fn slot(&self) -> u32
         ensures { result ≡ self.now.slot }
@@ -160,28 +147,25 @@ impl<B: Backfill> Slot<B> {
         &mut self,
         alloc: Global,
         assets: &Assets,
-        ready: Ready<B>,
+        ready: &mut Ready<B>,
         pool: &mut Pool,
     )
-        requires settled { (to : CellView) × IsSettled assets.now.glyphs self.old to ready }
-        requires pool { (r : Rectangle) → copies r ready.claims ≤ copies_in r pool.old.strips }
-        ensures settled { (to : CellView) → IsSettled assets.now.glyphs self.old to ready → self.new ≡ to }
-        ensures numbers { (r : Rectangle) → copies_in r pool.old.strips ≡ copies_in r pool.new.strips + copies r ready.claims }
+        requires settled { (to : CellView) × IsSettled assets.now.glyphs self.old to ready.old }
+        requires pool { (r : Rectangle) → copies r ready.old.claims ≤ copies_in r pool.old.strips }
+        ensures settled { (to : CellView) → IsSettled assets.now.glyphs self.old to ready.old → self.new ≡ to }
+        ensures numbers { (r : Rectangle) → copies_in r pool.old.strips ≡ copies_in r pool.new.strips + copies r ready.old.claims }
     {
-        let Ready {
-            prepared,
-            exchange,
-            gained,
-            taken,
-            window,
-            ..
-        } = ready;
-        exchange.claim(pool);
-        match prepared {
-            Becomes::Stays => self.stay(alloc, assets, &window),
+        ready.exchange.claim(pool);
+        match mem::replace(&mut ready.prepared, Becomes::Stays) {
+            Becomes::Stays => self.stay(alloc, assets, &ready.window),
             Becomes::Closes => self.close(),
-            Becomes::Opens(draft) => self.open(alloc, assets, draft, taken, &gained),
-            Becomes::Changes(change) => self.change(alloc, assets, change, &gained, &window),
+            Becomes::Opens(draft) => {
+                let taken = ready.taken.take();
+                self.open(alloc, assets, draft, taken, &ready.gained)
+            }
+            Becomes::Changes(change) => {
+                self.change(alloc, assets, change, &ready.gained, &ready.window)
+            }
         }
     }
 
@@ -210,16 +194,16 @@ impl<B: Backfill> Slot<B> {
         &mut self,
         alloc: Global,
         assets: &Assets,
-        draft: LiveDraft,
+        draft: Box<LiveDraft>,
         taken: Option<B>,
         gained: &Region,
     )
         requires idle { self.old.state ≡ view.Live → ⊥ }
-        requires draft { IsLiveDraft draft }
+        requires draft { IsLiveDraft draft.value }
         ensures { self.new ≡ record {
           number = self.old.number;
           state = view.Live;
-          live = with_own_frame assets.now.glyphs false (filled_as (option_map B.hook taken) gained.now (live_view draft));
+          live = with_own_frame assets.now.glyphs false (filled_as (option_map B.hook taken) gained.now (live_view draft.value));
         } }
     {
         let cell = &mut *self.cell;
@@ -238,16 +222,16 @@ impl<B: Backfill> Slot<B> {
         &mut self,
         alloc: Global,
         assets: &Assets,
-        change: Change,
+        change: Box<Change>,
         gained: &Region,
         window: &WindowAfter,
     )
         requires live { self.old.state ≡ view.Live }
         requires room { HasRoom 5 self.old }
-        requires change { IsChange (bare self.old).live change }
+        requires change { IsChange (bare self.old).live change.value }
         ensures { (q : Across) → IsDone q window.now.change → self.new ≡ with_live
             (λ c. followed assets.now.glyphs window.now q
-            (filled_as (hook_in self.old) gained.now (carried_to change.bounds change.parts.visible c)))
+            (filled_as (hook_in self.old) gained.now (carried_to change.value.bounds change.value.parts.visible c)))
             (bare self.old) }
     {
         let cell = &mut *self.cell;

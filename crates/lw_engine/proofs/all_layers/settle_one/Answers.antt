@@ -1,9 +1,8 @@
-use Rattle.std.proofs.Common.{◌≡◌, ◌≤◌, ◌+◌, get_or, set, sym, ap, subst, ◌∙◌}
+use Rattle.std.proofs.Common.{◌≡◌, get_or, set, sym, ap, subst, ◌∙◌}
 use Rattle.std.proofs.lemmas.List.{get_or_default}
-use Rattle.lw_strips.specs.Pools.{copies, copies_in}
 use Rattle.lw_layer.specs.View.{CellView}
 use Rattle.lw_engine.specs.Desks.{no_cell, cell_at}
-use Rattle.lw_engine.specs.Slots.{ReadyView, IsSettled}
+use Rattle.lw_engine.specs.Slots.{IsSettled}
 use Rattle.lw_engine.proofs.all_layers.settle_one.Goals as goal
 
 pub settle-requires-clause-settled : goal.settle-requires-clause-settled
@@ -15,14 +14,8 @@ settle-requires-clause-settled g c =
     let here : get_or slots c.slot-place.result d ≡ cell_at slots q =
     ap (λ n. get_or slots n d) c.slot-place.ensures ∙ get_or_default slots q d no_cell c.requires.low
     in
-    let P : CellView → Type 0 = λ v. IsSettled glyphs v c.requires.settled.0 c.replace-ready.result in
-    let R : ReadyView → Type 0 = λ r. IsSettled glyphs (cell_at slots q) c.requires.settled.0 r in
-    (c.requires.settled.0, subst P (sym here) (subst R (sym c.replace-ready.ensures.value) c.requires.settled.1))
-
-pub settle-requires-clause-pool : goal.settle-requires-clause-pool
-settle-requires-clause-pool g c = λ r.
-    let P : ReadyView → Type 0 = λ v. copies r v.claims ≤ copies_in r c.args.pool.now.strips in
-    subst P (sym c.replace-ready.ensures.value) (c.requires.pool r)
+    let P : CellView → Type 0 = λ v. IsSettled glyphs v c.requires.settled.0 c.args.ready.now in
+    (c.requires.settled.0, subst P (sym here) c.requires.settled.1)
 
 pub returns-clause-settled : goal.returns-clause-settled
 returns-clause-settled g c =
@@ -34,12 +27,5 @@ returns-clause-settled g c =
     let here : get_or slots c.slot-place.result d ≡ cell_at slots q =
     ap (λ n. get_or slots n d) c.slot-place.ensures ∙ get_or_default slots q d no_cell c.requires.low
     in
-    let P : CellView → Type 0 = λ v. IsSettled glyphs v to c.replace-ready.result in
-    let R : ReadyView → Type 0 = λ r. IsSettled glyphs (cell_at slots q) to r in
-    ap (λ n. set slots n c.settle.new.self) c.slot-place.ensures
-    ∙ ap (set slots q) (c.settle.ensures.settled to (subst P (sym here) (subst R (sym c.replace-ready.ensures.value) is)))
-
-pub returns-clause-numbers : goal.returns-clause-numbers
-returns-clause-numbers g c = λ r.
-    let P : ReadyView → Type 0 = λ v. copies_in r c.args.pool.now.strips ≡ copies_in r c.settle.new.pool.strips + copies r v.claims in
-    subst P c.replace-ready.ensures.value (c.settle.ensures.numbers r)
+    let P : CellView → Type 0 = λ v. IsSettled glyphs v to c.args.ready.now in
+    ap (λ n. set slots n c.settle.new.self) c.slot-place.ensures ∙ ap (set slots q) (c.settle.ensures.settled to (subst P (sym here) is))

@@ -14,7 +14,7 @@ returns g c =
     let glyphs = c.args.assets.now.glyphs in
     let taken = option_map g.B.Backfill.hook c.args.taken in
     let held = option_map g.B.Backfill.hook c.fill_gained.new.held in
-    let made : CellView → CellView = λ v. record { number = v.number; state = view.Live; live = live_view c.args.draft } in
+    let made : CellView → CellView = λ v. record { number = v.number; state = view.Live; live = live_view c.args.draft.value } in
     let Idle : CellView → Type 0 = λ v. v.state ≡ view.Live → ⊥ in
     slot_filled (with_own_frame glyphs false) taken held c.args.gained.now c.turn_into.new.cell c.in-Some.layer.now c.fill_gained.new.layer c.paint_own_frame.new.layer
     (own_hooked held glyphs false) c.in-Some.ensures.layer.1 c.fill_gained.ensures c.paint_own_frame.ensures

@@ -11,7 +11,7 @@ returns-in-Stays-clause-settled g c =
     let f = c.ready.inside in
     let R : ReadyView → Type 0 = λ r. IsSettled glyphs c.args.self.now to r in
     let P : Becomes → Type 0 = λ p. IsSettledBy glyphs c.args.self.now to f.gained (option_map g.B.Backfill.hook f.taken) f.window p in
-    c.stay.ensures to (subst P c.in-Stays.is (subst R (sym c.ready.view_is) is))
+    c.stay.ensures to (subst P c.in-Stays.is (subst P (sym c.replace.ensures.value) (subst R (sym c.ready.view_is) is)))
 
 pub claim-requires : goal.claim-requires
 claim-requires g c = λ r.
@@ -33,7 +33,7 @@ returns-in-Opens-clause-numbers g c = λ r.
     let P : ReadyView → Type 0 = λ v. copies_in r c.args.pool.now.strips ≡ copies_in r c.claim.new.pool.strips + copies r v.claims in
     subst P c.ready.view_is (c.claim.ensures r)
 
-pub returns-clause-numbers : goal.returns-clause-numbers
-returns-clause-numbers g c = λ r.
+pub returns-in-Changes-clause-numbers : goal.returns-in-Changes-clause-numbers
+returns-in-Changes-clause-numbers g c = λ r.
     let P : ReadyView → Type 0 = λ v. copies_in r c.args.pool.now.strips ≡ copies_in r c.claim.new.pool.strips + copies r v.claims in
     subst P c.ready.view_is (c.claim.ensures r)
