@@ -1,5 +1,5 @@
 -- What a comparison of rectangles, and of lists of them, tells.
-use Rattle.std.proofs.Common.{◌≡◌, Bool, true, ◌&&◌, List, sym, ap, ◌∙◌, ℤ}
+use Rattle.std.proofs.Common.{◌≡◌, Bool, true, ◌&&◌, List, Some, sym, ap, subst, ◌∙◌, ℤ}
 use Rattle.std.specs.Bool.{Decides}
 use Rattle.std.specs.Ordering.{int_eq}
 use Rattle.std.specs.Cmp.Lexicographic.{pointwise}
@@ -9,12 +9,18 @@ use Rattle.lw_region.specs.Rectangle.{Rectangle}
 use Rattle.lw_region.specs.Bands.{covers}
 use Rattle.lw_region.proofs.Numbers.{eq_true}
 use Rattle.lw_layer.specs.View.{CellView, with_live}
+use Rattle.lw_layer.specs.View as view
 use Rattle.lw_layer.specs.Pieces.{IsDamageOf}
 use Rattle.lw_layer.specs.StandsFor.{IsSound}
 use Rattle.lw_damage.specs.Damaged.{Damaged, may_lie}
+use Rattle.lw_stack.specs.Stack.{bounds_at, LieApart}
 use Rattle.lw_reveal.specs.Changed.{carried_to}
 use Rattle.lw_reveal.proofs.PairingLaws.{edges_same}
 use Rattle.lw_reveal.proofs.RevealLaws.{revealed_same}
+use Rattle.lw_arrange.specs.Arrangements.{ArrangementView}
+use Rattle.lw_arrange.specs.Prepared.{created_by, becomes, with_bounds, shown_at}
+use Rattle.lw_arrange.specs.Areas.{IsShownElsewhere, StaysApart}
+use Rattle.lw_arrange.proofs.VisibleLaws.{apart_shown}
 
 -- the test of two rectangles, edge by edge
 abbrev pub same_edges : Rectangle → Rectangle → Bool
@@ -38,3 +44,22 @@ pub stays_same : (c : CellView) (d : Damaged) (bounds : Rectangle) (visible : Li
 stays_same c d bounds visible sound damage lies place list =
     ap (λ b. with_live (λ q. carried_to b visible q) c) (sym place) ∙
     (ap (λ v. with_live (λ q. carried_to c.live.bounds v q) c) (sym list) ∙ ap (λ q. record c { live = q }) (revealed_same c.live d sound damage lies))
+
+-- A layer that stays where it is, apart from the area, stays as it is.
+pub apart_same : (a : ArrangementView) (c : CellView) (d : Damaged) (bounds : Rectangle) → IsSound c.live → IsDamageOf c.live d
+    → ((x y : ℤ) → covers d.rects x y ≡ true → may_lie d.inner x y ≡ true) → c.state ≡ view.Live
+    → bounds_at a.stack.bounds c.number ≡ Some bounds → c.live.bounds ≡ bounds → LieApart a.area bounds → IsShownElsewhere a c → StaysApart a c
+apart_same a c d bounds sound damage lies live here place apart elsewhere =
+    let new = created_by a.task a.call in
+    let depth = a.stack.sizes.depth in
+    let shown = shown_at a c.number in
+    let Here : Rectangle → Type 0 = λ r. bounds_at a.stack.bounds c.number ≡ Some r in
+    record {
+      live = live;
+      bounds = subst Here (sym place) here;
+      apart = subst (LieApart a.area) (sym place) apart;
+      same =
+          ap (becomes new depth shown c) here
+          ∙ (ap (with_bounds new depth bounds shown c) live
+          ∙ stays_same c d bounds shown sound damage lies place (apart_shown a c bounds sound live here place apart elsewhere));
+    }

@@ -8,9 +8,9 @@ use Rattle.lw_calls.specs.declared.call.Call.TheVariants.{SetBox}
 use Rattle.lw_machine.specs.Screen.{bounds_have, screen_bounds}
 use Rattle.lw_layer.specs.View.{State, LiveView, CellView}
 use Rattle.lw_layer.specs.View as view
-use Rattle.lw_stack.specs.Stack.{Stack, bounds_at, is_top_in}
+use Rattle.lw_stack.specs.Stack.{Stack, bounds_at, is_top_in, LieApart}
 use Rattle.lw_arrange.specs.Arrangements.{ArrangementView}
-use Rattle.lw_arrange.specs.Prepared.{shown_at}
+use Rattle.lw_arrange.specs.Prepared.{shown_at, cell_after}
 use Rattle.lw_arrange.specs.declared.arrangement.Step.{Step}
 use Rattle.lw_arrange.specs.declared.arrangement.Step.TheVariants.{Refused, Arranged}
 
@@ -62,6 +62,13 @@ abbrev pub IsShownElsewhere : ArrangementView → CellView → Type 0
 IsShownElsewhere a c =
     (x y : ℤ) → covers a.area x y ≡ false
     → is_visible c.state c.live x y ≡ is_top_in a.stack c.number x y
+
+-- The cell's layer stays where it is and has no place of the area, so that the cell stays as it is.
+pub record StaysApart (a : ArrangementView) (c : CellView) : Type 0 where
+  pub live : c.state ≡ view.Live
+  pub bounds : bounds_at a.stack.bounds c.number ≡ Some c.live.bounds
+  pub apart : LieApart a.area c.live.bounds
+  pub same : cell_after a c ≡ c
 
 -- For private contracts.
 -- The visible rectangles of a live layer after an arrangement, in which it then has these bounds; none are told where both stay.

@@ -1,17 +1,37 @@
 // What is visible of a layer after an arrangement: in the area of the plan what that says, and elsewhere what is visible already.
 
-ghost use Rattle.std.specs.Prelude.{◌≡◌, ◌<◌, ℤ, Some, IfOk};
+ghost use Rattle.std.specs.Prelude.{◌≡◌, ◌<◌, true, ℤ, Some, IfOk};
 ghost use Rattle.lw_region.specs.Bands.{covers};
 ghost use Rattle.lw_layer.specs.View as view;
 ghost use Rattle.lw_stack.specs.Stack.{bounds_at};
 ghost use Rattle.lw_arrange.specs.Prepared.{shown_at};
-ghost use Rattle.lw_arrange.specs.Areas.{IsShownElsewhere, IsVisibleAfter};
+ghost use Rattle.lw_arrange.specs.Areas.{IsShownElsewhere, StaysApart, IsVisibleAfter};
 
 use crate::arrangement::Arrangement;
 use lw_layer::{Cell, Layer};
 use lw_region::{Rect, Region, clear_region, moved_region, or_region};
 use lw_stack::meets;
 use std::alloc::{AllocError, Global};
+
+/// Whether the cell's layer stays where it is and doesn't meet the arrangement's area, so that the cell stays as it is: preparing
+/// it would change nothing. No rectangle of what is visible is looked at.
+pub fn stays_apart(cell: &Cell, arrangement: &Arrangement) -> bool
+    requires { IsShownElsewhere arrangement.now cell.now }
+    ensures { result ≡ true → StaysApart arrangement.now cell.now }
+{
+    let Some(layer) = cell.layer() else {
+        return false;
+    };
+    let Some(bounds) = arrangement.bounds(cell.slot()) else {
+        return false;
+    };
+    // Reading this tells the proof that the layer's damage lies on kept pixels of the inner rectangle.
+    let _ = layer.damage().region();
+    if layer.look().bounds != bounds {
+        return false;
+    }
+    !meets(arrangement.area(), &bounds)
+}
 
 /// The visible region of a new layer in the cell: what is shown of it in the area, since elsewhere nothing is.
 pub(crate) fn new_visible<'a>(cell: &Cell, arrangement: &'a Arrangement) -> &'a Region

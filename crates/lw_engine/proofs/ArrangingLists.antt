@@ -5,6 +5,7 @@ use Rattle.std.proofs.lemmas.Bool.{cases_eq, cases_lt, ne_eqb, eq-eqb}
 use Rattle.std.proofs.lemmas.List.{get_or-set_same, get_or-set_other, get_or_default, get_or-replicate, get_or-map, length-set, length-map, length-replicate, map_more, take-map, take_all}
 use Rattle.lw_calls.specs.Orders.{occurrences}
 use Rattle.lw_calls.proofs.OrdersComplete.{occurs_again, occurs_as_before}
+use Rattle.lw_machine.specs.Reveal.{has_bounds}
 use Rattle.lw_machine.proofs.ListSound.{has_first, has_rest}
 use Rattle.lw_layer.specs.View.{State, CellView}
 use Rattle.lw_layer.specs.View as view
@@ -79,7 +80,7 @@ one_more_seen us u cells looks k so_far low one = record {
 pub idle_slot : (v : Stack) (cells : List CellView) (s : ℕ) → IsStack v → AreListed v cells → s < length cells
     → occurrences s v.front_to_back ≡ 0 → (cell_at cells s).state ≡ view.Live → ⊥
 idle_slot v cells s ok listed low none live =
-    let one : occurrences s v.front_to_back ≡ 1 = ok.listed s ∙ ap (λ b. if b then 1 else 0) (listed s low live) in
+    let one : occurrences s v.front_to_back ≡ 1 = ok.listed s ∙ ap (λ o. if has_bounds o then 1 else 0) (listed s low live) in
     omega (arith, one, none)
 
 pub all_seen : (v : Stack) (cells : List CellView) (looks : List (Option Look)) → IsStack v → AreListed v cells

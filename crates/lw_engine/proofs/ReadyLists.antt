@@ -1,9 +1,9 @@
 -- What is told of all slots, and what is ready for them once a hook was taken from the shelf.
-use Rattle.std.proofs.Common.{◌≡◌, ℕ, zero, suc, ◌+◌, ◌<◌, ◌≤◌, ◌==◌, Bool, true, false, cond, not, ◌||◌, List, [], ◌∷◌, ◌++◌, map, length, take, get_or, set, Option, Some, None, ◌∙◌, refl, sym, ap, subst, arith}
+use Rattle.std.proofs.Common.{◌≡◌, ◌≢◌, ℕ, zero, suc, ◌+◌, ◌<◌, ◌≤◌, ◌==◌, Bool, true, false, cond, not, ◌||◌, List, [], ◌∷◌, ◌++◌, map, length, take, get_or, set, Option, Some, None, ◌∙◌, refl, sym, ap, subst, ⊎_elim, arith}
 use Rattle.std.specs.Prelude.{if◌then◌else◌}
 use Rattle.std.specs.List.{All, filter}
 use Rattle.std.specs.Option.{is_some}
-use Rattle.std.proofs.lemmas.Bool.{false≢true, eqb-true, ne_eqb}
+use Rattle.std.proofs.lemmas.Bool.{false≢true, cases_eq, eqb-true, ne_eqb}
 use Rattle.std.proofs.lemmas.List.{append_assoc, get_or-map, length-map, map_push}
 use Rattle.std.proofs.lemmas.List.Elements.{All-nil, All-cons, All-head, All-tail, All-push, All-weaker, filter_more}
 use Rattle.lw_region.specs.Rectangle.{Rectangle}
@@ -22,9 +22,9 @@ use Rattle.lw_layer.specs.declared.look.Look.{Look}
 use Rattle.lw_stack.specs.Stack.{Stack, bounds_at, IsStack}
 use Rattle.lw_arrange.specs.Arrangements.{ArrangementView}
 use Rattle.lw_engine.specs.Desks.{cell_at, hook_at}
-use Rattle.lw_engine.specs.Slots.{hook_in, asked_hook, slot_after, ReadyView, IsSettledBy, IsSettled, IsReadyFor, nothing_ready}
-use Rattle.lw_engine.specs.Arranging.{IsTruth, slots_of, AreFor, AreMade, is_idle, AreReady, AreSettled, given_to, with_taken}
-use Rattle.lw_engine.proofs.ArrangingLists.{entry_occurs}
+use Rattle.lw_engine.specs.Slots.{hook_in, asked_hook, slot_after, ReadyView, IsSettledBy, IsSettled, IsReadyFor, IsLeft, nothing_ready}
+use Rattle.lw_engine.specs.Arranging.{IsTruth, slots_of, AreFor, AreMade, is_idle, is_concerned, AreReady, AreSettled, given_to, with_taken}
+use Rattle.lw_engine.proofs.ArrangingLists.{occurs_before, entry_occurs}
 use Rattle.lw_engine.proofs.SettlingLaws.{bare_cell}
 
 -- a look tells nothing of a hook
@@ -80,7 +80,7 @@ occurs_passed p s (u ∷ us) = by_test (p u) (p s) (u == s) refl refl refl (occu
         rest ∙ (omega arith ∙ ap (λ t. (if t then 1 else 0) + occurrences s us) (sym is))
     by_test false false same here there is rest = rest
 
--- one slot more is made ready
+-- one slot more is made ready, or left as it is
 pub made_more : (a : ArrangementView) (shelf : List (Option Hook)) (slots : List CellView) (us : List ℕ) (made : List ReadyView) (u : ℕ)
     (r : ReadyView) → AreMade a shelf slots us made → u < length slots → r.slot ≡ u → IsReadyFor a shelf (cell_at slots u) r
     → AreMade a shelf slots (us ++ u ∷ []) (made ++ r ∷ [])
@@ -88,12 +88,34 @@ made_more a shelf slots us made u r so_far low is one =
     let N : ℕ → Type 0 = λ n. (n < length slots) × IsReadyFor a shelf (cell_at slots n) r in
     record {
       each = All-push (λ q. (q.slot < length slots) × IsReadyFor a shelf (cell_at slots q.slot) q) made r so_far.each (subst N (sym is) (low, one));
-      order = map_push (λ (q : ReadyView). q.slot) made r ∙ (ap (λ l. l ++ r.slot ∷ []) so_far.order ∙ ap (λ n. us ++ n ∷ []) is);
+      once = λ s. let more = now s in let wanted = occurs_split s us (u ∷ []) in let few = so_far.once s in omega (arith, more, wanted, few);
+      others = λ s has none.
+          let more = now s in
+          let wanted = occurs_split s us (u ∷ []) in
+          so_far.others s (omega (arith, has, none, more, wanted)) (omega (arith, none, more));
     }
+  where
+    now : (s : ℕ) → occurrences s (slots_of (made ++ r ∷ [])) ≡ occurrences s (slots_of made) + occurrences s (u ∷ [])
+    now s =
+        ap (occurrences s) (map_push (λ (q : ReadyView). q.slot) made r ∙ ap (λ n. slots_of made ++ n ∷ []) is)
+        ∙ occurs_split s (slots_of made) (u ∷ [])
+
+pub left_more : (a : ArrangementView) (shelf : List (Option Hook)) (slots : List CellView) (us : List ℕ) (made : List ReadyView) (u : ℕ)
+    → AreMade a shelf slots us made → IsLeft a (cell_at slots u) → AreMade a shelf slots (us ++ u ∷ []) made
+left_more a shelf slots us made u so_far left = record {
+  each = so_far.each;
+  once = λ s. let wanted = occurs_split s us (u ∷ []) in let few = so_far.once s in omega (arith, wanted, few);
+  others = λ s has none.
+      let P : ℕ → Type 0 = λ n. IsLeft a (cell_at slots n) in
+      ⊎_elim
+      (λ (same : s ≡ u). subst P (sym same) left)
+      (λ (other : s ≢ u). let before = occurs_before s u us other in so_far.others s (omega (arith, has, before)) none)
+      (cases_eq s u);
+}
 
 pub made_as : (a : ArrangementView) (shelf : List (Option Hook)) (slots : List CellView) (us vs : List ℕ) (made : List ReadyView) → us ≡ vs
     → AreMade a shelf slots us made → AreMade a shelf slots vs made
-made_as a shelf slots us vs made same so_far = record { each = so_far.each; order = so_far.order ∙ same }
+made_as a shelf slots us vs made same so_far = subst (λ l. AreMade a shelf slots l made) same so_far
 
 -- the next slot of a list, which gets bounds or has some already
 pub idle_by : (o : Option Rectangle) (none : Bool) → is_some o ≡ not none → not (has_bounds o) ≡ none
@@ -115,11 +137,10 @@ pub all_ready : (v : Stack) (a : ArrangementView) (shelf : List (Option Hook)) (
     → IsStack a.stack → AreMade a shelf slots (v.front_to_back ++ filter (is_idle v) a.stack.front_to_back) made → AreReady v a shelf slots made
 all_ready v a shelf slots made before after so_far = record {
   each = so_far.each;
-  listed = λ s.
-      ap (occurrences s) so_far.order
-      ∙ (occurs_split s v.front_to_back (filter (is_idle v) a.stack.front_to_back)
-      ∙ (ap (λ n. occurrences s v.front_to_back + n) (occurs_passed (is_idle v) s a.stack.front_to_back)
-      ∙ by_test (has_bounds (bounds_at v.bounds s)) (has_bounds (bounds_at a.stack.bounds s)) (occurrences s v.front_to_back) (occurrences s a.stack.front_to_back) (before.listed s) (after.listed s)));
+  once = λ s. let few = so_far.once s in let wanted = listed s in omega (arith, few, wanted);
+  others = λ s concerned none.
+      let one : occurrences s all ≡ 1 = listed s ∙ ap (λ t. if t then 1 else 0) concerned in
+      so_far.others s (omega (arith, one)) none;
 }
   where
     by_test : (b c : Bool) (n m : ℕ) → n ≡ (if b then 1 else 0) → m ≡ (if c then 1 else 0)
@@ -127,6 +148,15 @@ all_ready v a shelf slots made before after so_far = record {
     by_test true c n m was is = omega (arith, was)
     by_test false true n m was is = omega (arith, was, is)
     by_test false false n m was is = omega (arith, was, is)
+
+    all : List ℕ
+    all = v.front_to_back ++ filter (is_idle v) a.stack.front_to_back
+
+    listed : (s : ℕ) → occurrences s all ≡ (if is_concerned v a.stack s then 1 else 0)
+    listed s =
+        occurs_split s v.front_to_back (filter (is_idle v) a.stack.front_to_back)
+        ∙ (ap (λ n. occurrences s v.front_to_back + n) (occurs_passed (is_idle v) s a.stack.front_to_back)
+        ∙ by_test (has_bounds (bounds_at v.bounds s)) (has_bounds (bounds_at a.stack.bounds s)) (occurrences s v.front_to_back) (occurrences s a.stack.front_to_back) (before.listed s) (after.listed s))
 
 -- the entries of a list, none of which is for a slot
 pub others_differ : (ready : List ReadyView) (s i : ℕ) (d : ReadyView) → i < length ready → occurrences s (slots_of ready) ≡ 0

@@ -1,5 +1,5 @@
 -- What the slots give up, claim and become for which something is ready, and that all others have no part in an arrangement.
-use Rattle.std.proofs.Common.{◌≡◌, ℕ, ◌+◌, ◌<◌, ◌≤◌, ◌==◌, Bool, true, false, not, ◌&&◌, ◌||◌, cond, List, [], ◌∷◌, map, length, get_or, ℤ, Option, Some, None, refl, sym, ap, subst, ◌∙◌, arith}
+use Rattle.std.proofs.Common.{◌≡◌, ℕ, ◌+◌, ◌<◌, ◌≤◌, ◌==◌, Bool, true, false, not, ◌&&◌, ◌||◌, cond, List, [], ◌∷◌, map, length, get_or, ℤ, Option, Some, None, ◌⊎◌, inl, inr, refl, sym, ap, subst, ◌∙◌, ⊎_elim, arith}
 use Rattle.std.specs.Prelude.{if◌then◌else◌}
 use Rattle.std.specs.List.{All, filter, sum_by}
 use Rattle.std.specs.Option.{is_some}
@@ -7,8 +7,8 @@ use Rattle.std.proofs.Math.Bool.{and-true}
 use Rattle.std.proofs.lemmas.Bool.{false≢true, ne_eqb, eq-eqb, eqb-true, and_right}
 use Rattle.std.proofs.lemmas.List.Elements.{All-head, All-tail, All-weaker}
 use Rattle.lw_region.specs.Rectangle.{Rectangle, has_pixel}
+use Rattle.lw_region.specs.Bands.{covers}
 use Rattle.lw_region.proofs.SetOps.{canonical_empty}
-use Rattle.lw_planes.specs.Row.{bit_of}
 use Rattle.lw_calls.specs.declared.sizes.Sizes.{Sizes}
 use Rattle.lw_calls.specs.Orders.{occurrences}
 use Rattle.lw_machine.specs.Hook.{Hook}
@@ -23,16 +23,18 @@ use Rattle.lw_strips.specs.declared.piece.Piece.{Piece}
 use Rattle.lw_strips.proofs.ExchangeLaws.{exchange}
 use Rattle.lw_layer.specs.View.{State, CellView}
 use Rattle.lw_layer.specs.View as view
-use Rattle.lw_stack.specs.Stack.{Stack, bounds_at, top_in}
+use Rattle.lw_stack.specs.Stack.{Stack, bounds_at, top_in, is_top_in, LieApart}
 use Rattle.lw_stack.proofs.FirstLaws.{not_top}
 use Rattle.lw_arrange.specs.Arrangements.{ArrangementView}
+use Rattle.lw_arrange.specs.Areas.{HasArea}
 use Rattle.lw_arrange.specs.Exchanged.{HasPieces}
 use Rattle.lw_arrange.specs.Pieces.{owner_has, between, ArePieces}
 use Rattle.lw_arrange.specs.Prepared.{without_layer}
 use Rattle.lw_arrange.specs.Settled.{settled_by}
 use Rattle.lw_arrange.proofs.DesktopLaws.{blank_rects}
+use Rattle.lw_arrange.proofs.PieceLaws.{one_owner}
 use Rattle.lw_engine.specs.Desks.{cell_at, AreNumbered}
-use Rattle.lw_engine.specs.Slots.{asked_hook, slot_after, ReadyView}
+use Rattle.lw_engine.specs.Slots.{asked_hook, slot_after, ReadyView, IsLeft}
 use Rattle.lw_engine.specs.Arranging.{AreListed, slots_of, is_concerned, AreReady, AreSettled, with_taken, given_up, AreChanged, AreChangedAt}
 use Rattle.lw_engine.proofs.ReadyLists.{ready_taken}
 use Rattle.lw_engine.proofs.ExchangeSums.{total_more, total_lost, strips_many, lost_counted, ready_total, given_slots, given_claims, taken_sum, given_settled, enough_claims, last_claims, owners_below}
@@ -67,51 +69,99 @@ nothing_gained b n (p ∷ pieces) owners none =
     ∙ nothing_gained b n pieces (All-tail (λ q. q.from ≤ n) p pieces owners)
     (λ a low. less_first (p.from == a && p.to == b) p (filter (λ q. q.from == a && q.to == b) pieces) (none a low))
 
--- a slot without bounds has no place
-without_places : (v : Stack) (s : ℕ) (x y : ℤ) → s < v.sizes.slots → bounds_at v.bounds s ≡ None → owner_has v s x y ≡ false
-without_places v s x y low none =
+apart_or : (t : Bool) {u : Bool} → (t ≡ false → u ≡ false) → (not t && u) ≡ false
+apart_or true off = refl
+apart_or false off = off refl
+
+-- a slot has the places where its layer is on top, and without bounds none
+slot_has : (v : Stack) (s : ℕ) (x y : ℤ) → s < v.sizes.slots → owner_has v s x y ≡ is_top_in v s x y
+slot_has v s x y low =
     ap (λ t. if t then (has_pixel (screen v.sizes.width v.sizes.height) x y && not (is_some (top_in v x y))) else is_the (top_in v x y) s)
     (ne_eqb s v.sizes.slots (λ same. absurd (omega (arith, same, low))))
-    ∙ not_top v s x y (ap (λ o. bounds_have o x y) none)
+
+without_places : (v : Stack) (s : ℕ) (x y : ℤ) → s < v.sizes.slots → bounds_at v.bounds s ≡ None → owner_has v s x y ≡ false
+without_places v s x y low none = slot_has v s x y low ∙ not_top v s x y (ap (λ o. bounds_have o x y) none)
+
+-- a slot that stays where it is, apart from the area, has the same places
+same_places : (v : Stack) (a : ArrangementView) (s : ℕ) (r : Rectangle) → HasArea v a → s < v.sizes.slots → s < a.stack.sizes.slots
+    → bounds_at v.bounds s ≡ Some r → bounds_at a.stack.bounds s ≡ Some r → LieApart a.area r → (x y : ℤ)
+    → owner_has v s x y ≡ owner_has a.stack s x y
+same_places v a s r area low inside before after apart x y =
+    slot_has v s x y low ∙ (by_area (covers a.area x y) refl ∙ sym (slot_has a.stack s x y inside))
+  where
+    by_area : (t : Bool) → covers a.area x y ≡ t → is_top_in v s x y ≡ is_top_in a.stack s x y
+    by_area true is =
+        let off : has_pixel r x y ≡ false = ap (λ t. t && has_pixel r x y) (sym is) ∙ apart x y in
+        not_top v s x y (ap (λ o. bounds_have o x y) before ∙ off) ∙ sym (not_top a.stack s x y (ap (λ o. bounds_have o x y) after ∙ off))
+    by_area false is = area.elsewhere s x y is
 
 -- the parts of the exchange that the slots have for which something is ready
 module _ (v : Stack) (a : ArrangementView) (shelf : List (Option Hook)) (slots : List CellView) (made : List ReadyView)
     (numbered : AreNumbered v.sizes.slots slots) (sizes : a.stack.sizes ≡ v.sizes) (pieces : ArePieces v a.stack a.pieces)
-    (ready : AreReady v a shelf slots made) where
+    (listed : AreListed v slots) (area : HasArea v a) (ready : AreReady v a shelf slots made) where
   ready_once : (s : ℕ) → occurrences s (slots_of made) ≤ 1
-  ready_once s = by_test (is_concerned v a.stack s) (ready.listed s)
+  ready_once s = by_test (is_concerned v a.stack s) (ready.once s)
     where
-      by_test : (t : Bool) → occurrences s (slots_of made) ≡ (if t then 1 else 0) → occurrences s (slots_of made) ≤ 1
+      by_test : (t : Bool) → occurrences s (slots_of made) ≤ (if t then 1 else 0) → occurrences s (slots_of made) ≤ 1
       by_test true is = omega (arith, is)
       by_test false is = omega (arith, is)
 
-  -- a slot for which nothing is ready has no bounds before and afterwards
-  unready : (s : ℕ) → occurrences s (slots_of made) ≡ 0 → (bounds_at v.bounds s ≡ None) × (bounds_at a.stack.bounds s ≡ None)
-  unready s none = by_bounds (bounds_at v.bounds s) (bounds_at a.stack.bounds s) (sym (ready.listed s) ∙ none)
+  -- a slot for which nothing is ready has no bounds before and afterwards, or is left as it is
+  unready : (s : ℕ) → occurrences s (slots_of made) ≡ 0
+      → ((bounds_at v.bounds s ≡ None) × (bounds_at a.stack.bounds s ≡ None)) ⊎ IsLeft a (cell_at slots s)
+  unready s none = by_bounds (bounds_at v.bounds s) (bounds_at a.stack.bounds s) (λ concerned. ready.others s concerned none)
     where
-      by_bounds : (o p : Option Rectangle) → bit_of (has_bounds o || has_bounds p) ≡ 0 → (o ≡ None) × (p ≡ None)
-      by_bounds None None is = (refl, refl)
-      by_bounds None (Some r) is = absurd (omega (arith, is))
-      by_bounds (Some r) p is = absurd (omega (arith, is))
+      by_bounds : (o p : Option Rectangle) → ((has_bounds o || has_bounds p) ≡ true → IsLeft a (cell_at slots s))
+          → ((o ≡ None) × (p ≡ None)) ⊎ IsLeft a (cell_at slots s)
+      by_bounds None None left = inl (refl, refl)
+      by_bounds None (Some r) left = inr (left refl)
+      by_bounds (Some r) p left = inr (left refl)
 
   slots_same : a.stack.sizes.slots ≡ v.sizes.slots
   slots_same = ap (λ (z : Sizes). z.slots) sizes
+
+  -- it has no place that another owner has afterwards or before
+  kept_places : (s : ℕ) → s < v.sizes.slots → IsLeft a (cell_at slots s) → (x y : ℤ) → owner_has v s x y ≡ owner_has a.stack s x y
+  kept_places s low left =
+      let inside : s < length slots = omega (arith, low, numbered.many) in
+      same_places v a s (cell_at slots s).live.bounds area low (omega (arith, low, slots_same)) (listed s inside left.live)
+      (ap (bounds_at a.stack.bounds) (sym (numbered.numbers s low)) ∙ left.bounds) left.apart
+
+  none_lost : (s b : ℕ) (x y : ℤ) → s < v.sizes.slots → occurrences s (slots_of made) ≡ 0
+      → (not (s == b) && (owner_has v s x y && owner_has a.stack b x y)) ≡ false
+  none_lost s b x y low none =
+      apart_or (s == b)
+      (λ other.
+      ⊎_elim
+      (λ idle. ap (λ t. t && owner_has a.stack b x y) (without_places v s x y low idle.0))
+      (λ left. ap (λ t. t && owner_has a.stack b x y) (kept_places s low left x y)
+      ∙ one_owner a.stack.sizes.slots (has_pixel (screen a.stack.sizes.width a.stack.sizes.height) x y) (top_in a.stack x y) s b other)
+      (unready s none))
+
+  none_gained : (b s : ℕ) (x y : ℤ) → s < v.sizes.slots → occurrences s (slots_of made) ≡ 0
+      → (not (b == s) && (owner_has v b x y && owner_has a.stack s x y)) ≡ false
+  none_gained b s x y low none =
+      apart_or (b == s)
+      (λ other.
+      ⊎_elim
+      (λ idle. and_right (owner_has v b x y) _ (without_places a.stack s x y (omega (arith, low, slots_same)) idle.1))
+      (λ left. ap (λ t. owner_has v b x y && t) (sym (kept_places s low left x y))
+      ∙ one_owner v.sizes.slots (has_pixel (screen v.sizes.width v.sizes.height) x y) (top_in v x y) b s other)
+      (unready s none))
 
   idle_lost : (s : ℕ) → s < v.sizes.slots → occurrences s (slots_of made) ≡ 0 → lost_rects s a.pieces ≡ []
   idle_lost s low none =
       nothing_lost s v.sizes.slots a.pieces
       (All-weaker (λ p. (p.from ≤ v.sizes.slots) × (p.to ≤ v.sizes.slots)) (λ p. p.to ≤ v.sizes.slots) (λ p both. both.1) a.pieces pieces.owners)
       (λ b below. canonical_empty (between s b a.pieces) (pieces.canonical s b)
-      (λ x y. pieces.places s b x y (omega (arith, low)) below
-      ∙ and_right (not (s == b)) _ (ap (λ t. t && owner_has a.stack b x y) (without_places v s x y low (unready s none).0))))
+      (λ x y. pieces.places s b x y (omega (arith, low)) below ∙ none_lost s b x y low none))
 
   idle_gained : (s : ℕ) → s < v.sizes.slots → occurrences s (slots_of made) ≡ 0 → gained_rects s a.pieces ≡ []
   idle_gained s low none =
       nothing_gained s v.sizes.slots a.pieces
       (All-weaker (λ p. (p.from ≤ v.sizes.slots) × (p.to ≤ v.sizes.slots)) (λ p. p.from ≤ v.sizes.slots) (λ p both. both.0) a.pieces pieces.owners)
       (λ b below. canonical_empty (between b s a.pieces) (pieces.canonical b s)
-      (λ x y. pieces.places b s x y below (omega (arith, low))
-      ∙ and_right (not (b == s)) _ (and_right (owner_has v b x y) _ (without_places a.stack s x y (omega (arith, low, slots_same)) (unready s none).1))))
+      (λ x y. pieces.places b s x y below (omega (arith, low)) ∙ none_gained b s x y low none))
 
   -- each has what the plan says of its slot
   has_pieces : (i : ℕ) (d : ReadyView) → i < length made → ((get_or made i d).slot < v.sizes.slots)
@@ -201,29 +251,30 @@ module _ (v : Stack) (a : ArrangementView) (shelf : List (Option Hook)) (slots :
   once_then s = let same = ap (occurrences s) (given_slots shelf a.call made) in let once = ready_once s in omega (arith, same, once)
 
   -- a slot for which nothing is ready stays as it is
-  still_after : (glyphs : List (List ℕ)) (s : ℕ) → AreListed v slots → s < length slots → occurrences s (slots_of made) ≡ 0
+  still_after : (glyphs : List (List ℕ)) (s : ℕ) → s < length slots → occurrences s (slots_of made) ≡ 0
       → cell_at slots s ≡ slot_after glyphs a shelf (cell_at slots s)
-  still_after glyphs s listed below none = by_state (cell_at slots s).state idle ∙ sym gone
+  still_after glyphs s below none =
+      ⊎_elim (λ idle. by_state c.state (never idle.0) ∙ sym (gone idle.1)) (λ left. sym (left.still glyphs shelf)) (unready s none)
     where
       c : CellView
       c = cell_at slots s
 
-      gone : slot_after glyphs a shelf c ≡ without_layer c c.state
-      gone =
+      gone : bounds_at a.stack.bounds s ≡ None → slot_after glyphs a shelf c ≡ without_layer c c.state
+      gone after =
           ap (settled_by glyphs a (asked_hook shelf a.call c.number) c)
-          (ap (bounds_at a.stack.bounds) (numbered.numbers s (omega (arith, numbered.many, below))) ∙ (unready s none).1)
+          (ap (bounds_at a.stack.bounds) (numbered.numbers s (omega (arith, numbered.many, below))) ∙ after)
 
-      idle : c.state ≡ view.Live → ⊥
-      idle live = false≢true (ap has_bounds (sym (unready s none).0) ∙ listed s below live)
+      never : bounds_at v.bounds s ≡ None → c.state ≡ view.Live → ⊥
+      never before live = false≢true (ap has_bounds (sym before ∙ listed s below live))
 
       by_state : (q : State) → (q ≡ view.Live → ⊥) → c ≡ without_layer c q
       by_state view.Unopened live = refl
       by_state view.Live live = absurd (live refl)
       by_state view.Closed live = refl
 
-  pub changed_then : (glyphs : List (List ℕ)) (new : List CellView) → AreListed v slots
+  pub changed_then : (glyphs : List (List ℕ)) (new : List CellView)
       → AreChangedAt (slots_of given) (slot_after glyphs a shelf) slots new → AreChanged (slot_after glyphs a shelf) slots new
-  changed_then glyphs new listed changed = record {
+  changed_then glyphs new changed = record {
     many = changed.many;
     each = λ s below. changed.each s ∙ by_test s below (occurrences s (slots_of given) == 0) refl;
   }
@@ -231,5 +282,5 @@ module _ (v : Stack) (a : ArrangementView) (shelf : List (Option Hook)) (slots :
       by_test : (s : ℕ) → s < length slots → (t : Bool) → (occurrences s (slots_of given) == 0) ≡ t
           → (if t then cell_at slots s else slot_after glyphs a shelf (cell_at slots s)) ≡ slot_after glyphs a shelf (cell_at slots s)
       by_test s below true is =
-          still_after glyphs s listed below (sym (ap (occurrences s) (given_slots shelf a.call made)) ∙ eqb-true (occurrences s (slots_of given)) 0 is)
+          still_after glyphs s below (sym (ap (occurrences s) (given_slots shelf a.call made)) ∙ eqb-true (occurrences s (slots_of given)) 0 is)
       by_test s below false is = refl

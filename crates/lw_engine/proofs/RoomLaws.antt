@@ -1,10 +1,9 @@
 -- The room that ports have makes no difference to what cells stand for.
-use Rattle.std.proofs.Common.{◌≡◌, ◌≢◌, ℕ, zero, suc, ◌<◌, ◌≤◌, List, [], ◌∷◌, ◌++◌, map, length, get_or, set, ◌⊎◌, inl, inr, ◌∙◌, sym, refl, ap, subst, ⊎_elim, arith}
+use Rattle.std.proofs.Common.{◌≡◌, ◌≢◌, ℕ, zero, suc, ◌<◌, ◌≤◌, List, [], ◌∷◌, ◌++◌, map, length, get_or, set, Some, ◌⊎◌, inl, inr, ◌∙◌, sym, refl, ap, subst, ⊎_elim, arith}
 use Rattle.std.proofs.lemmas.Bool.{cases_eq, cases_lt}
 use Rattle.std.proofs.lemmas.List.{length-map, get_or-map, get_or-set_same, get_or-set_other}
 use Rattle.lw_calls.specs.Orders.{occurrences}
 use Rattle.lw_machine.specs.Desk.{Desk}
-use Rattle.lw_machine.specs.Reveal.{has_bounds}
 use Rattle.lw_machine.specs.Parts.{SlotPart, slot_part}
 use Rattle.lw_layer.specs.View.{State, LiveView, CellView, keeps}
 use Rattle.lw_layer.specs.View as view
@@ -111,7 +110,8 @@ more_room now us u c inside before one s has =
 pub listed_roomed : (v : Stack) (cells other : List CellView) → AreAsBefore cells other → AreListed v cells → AreListed v other
 listed_roomed v cells other same listed s low live =
     let inside : s < length cells = omega (arith, same_length cells other same, low) in
-    listed s inside (ap (λ (c : CellView). c.state) (sym (same_cell cells other s same inside)) ∙ live)
+    let is = sym (same_cell cells other s same inside) in
+    listed s inside (ap (λ (c : CellView). c.state) is ∙ live) ∙ ap (λ (c : CellView). Some c.live.bounds) is
 
 -- where those in the list have room, all have
 pub all_room : (v : Stack) (cells now : List CellView) → IsStack v → AreListed v cells → AreAsBefore cells now
@@ -136,4 +136,4 @@ listed_cells v cells d are numbered s low live =
     let c = cell_at cells s in
     let P : State → Type 0 = λ q. IsPartOf q c.live (slot_part d s) in
     let part : P view.Live = subst P live (are.slots s (omega (arith, numbered.many, low))) in
-    ap has_bounds (sym (are.info.bounds s) ∙ part.bounds)
+    sym (are.info.bounds s) ∙ part.bounds

@@ -1,6 +1,7 @@
 -- What is ready for a slot makes of it what the arrangement says.
-use Rattle.std.proofs.Common.{◌≡◌, ℕ, zero, suc, ◌+◌, ◌*◌, ◌==◌, Bool, true, false, not, ◌&&◌, ◌||◌, ℤ, pos, List, [], ◌∷◌, length, get_or, replicate, Option, Some, None, refl, sym, ap, subst, ◌∙◌, arith}
+use Rattle.std.proofs.Common.{◌≡◌, ℕ, zero, suc, ◌+◌, ◌-◌, ◌*◌, ◌==◌, Bool, true, false, not, ◌&&◌, ◌||◌, ℤ, pos, List, [], ◌∷◌, length, get_or, replicate, Option, Some, None, refl, sym, ap, subst, ◌∙◌, arith}
 use Rattle.std.specs.Global.{Box}
+use Rattle.std.proofs.lemmas.Bool.{false≢true}
 use Rattle.std.proofs.lemmas.Bool.Decides.{nat_tests}
 use Rattle.std.proofs.Math.Path.{fun_ext}
 use Rattle.std.proofs.lemmas.Nat.{pow_pos}
@@ -14,11 +15,14 @@ use Rattle.lw_calls.specs.Kinds.{is_super}
 use Rattle.lw_machine.specs.Hook.{Hook, tile_place, hook_pen}
 use Rattle.lw_machine.specs.Paint.{with_pens, pen_within}
 use Rattle.lw_backfill.specs.Hooks.{solid}
-use Rattle.lw_machine.specs.Layer.{Layer, is_framed}
+use Rattle.lw_machine.specs.Layer.{Layer, Window, is_framed, changed_window}
+use Rattle.lw_machine.specs.Desk.{is_the}
+use Rattle.lw_machine.specs.Reveal.{Across, was_live, is_resized, same_bounds, window_with_messages}
 use Rattle.lw_layer.specs.View.{State, LiveView, CellView, keeps, with_layer, with_live, hooked}
 use Rattle.lw_layer.specs.View as view
 use Rattle.lw_layer.specs.Drafts.{no_layer}
 use Rattle.lw_layer.specs.StandsFor.{IsSound}
+use Rattle.lw_layer.specs.Windows.{due_count}
 use Rattle.lw_layer.specs.declared.draft.LiveDraft.{LiveDraft}
 use Rattle.lw_frames.specs.Framing.{with_own_frame}
 use Rattle.lw_stack.specs.Stack.{bounds_at}
@@ -27,13 +31,14 @@ use Rattle.lw_arrange.specs.declared.preparing.Becomes.TheVariants.{Stays, Close
 use Rattle.lw_arrange.specs.Arrangements.{ArrangementView}
 use Rattle.lw_arrange.specs.Prepared.{Created, created_by, created_live, becomes, with_bounds, without_layer, shown_at, cell_after, MayBecome, MayBe, MayOpen}
 use Rattle.lw_arrange.specs.Made.{IsPrepared}
+use Rattle.lw_arrange.specs.Areas.{StaysApart}
 use Rattle.lw_arrange.specs.Filled.{keeps_if_live, counts_if_live, is_inside, gains, gains_some}
 use Rattle.lw_arrange.specs.Settled.{new_of, settled_new, settled_with, settled_by}
 use Rattle.lw_layer.proofs.PixelTests.{none_within}
 use Rattle.lw_arrange.proofs.FilledLaws.{unfilled}
 use Rattle.lw_arrange.proofs.GainsLaws.{stayed}
 use Rattle.lw_engine.specs.declared.window_after.WindowAfter.{WindowAfter}
-use Rattle.lw_engine.specs.Slots.{hook_in, bare, asked_hook, due_hook, filled_from, slot_after, filled_as, across_live, IsWindowAfter, MayBeReady, IsStill, IsSettledBy, followed}
+use Rattle.lw_engine.specs.Slots.{hook_in, bare, asked_hook, due_hook, filled_from, slot_after, filled_as, across_live, IsWindowAfter, MayBeReady, IsLeft, IsStill, IsSettledBy, followed}
 use Rattle.lw_engine.proofs.SettledLaws.{live_settled, new_settled, live_filled, new_filled, new_undamaged}
 
 -- a cell that was read has no hook of its own
@@ -161,6 +166,58 @@ may_become a c may r s bounds state =
     let Q : State → Type 0 = λ t. MayBecome (created_by a.task a.call) a.stack.sizes.depth r (shown_at a c.number) (bare c) t in
     subst Q state (subst P bounds may.prepare)
 
+-- a layer that stays live is revealed as it is, where its cell stays
+pub stays_settled : (glyphs : List (List ℕ)) (a : ArrangementView) (shelf : List (Option Hook)) (c : CellView) (r : Rectangle) (w : WindowAfter)
+    → c.state ≡ view.Live → IsSound (bare c).live → bounds_at a.stack.bounds c.number ≡ Some r → cell_after a (bare c) ≡ bare c
+    → IsWindowAfter a c r w → slot_after glyphs a shelf c ≡ with_live (followed glyphs w (across_live a c r)) c
+stays_settled glyphs a shelf c r w live sound bounds stays after =
+    let h = asked_hook shelf a.call c.number in
+    let b = bare c in
+    ap (settled_by glyphs a h c) bounds
+    ∙ (ap (settled_with glyphs a h c r) live
+    ∙ live_settled glyphs a c r w c
+    (sym (stays_filled c sound.bits.bitmap)
+    ∙ (ap (filled_from b (hook_in c)) (sym stays ∙ cell_is a c (Some r) view.Live bounds live) ∙ live_filled a c r live sound))
+    after)
+
+-- one that is no window is told nothing
+untold : (q : Across) (k : LiveView) (o : Option Window) → o ≡ None
+    → record k { room = k.room - due_count q k.layer o; layer = record k.layer { window = changed_window (window_with_messages q k.layer) o } }
+    ≡ record k { layer = record k.layer { window = o } }
+untold q k None plain = let same : k.room - 0 ≡ k.room = omega arith in ap (λ n. record k { room = n; layer = record k.layer { window = None } }) same
+untold q k (Some w) plain = absurd (cc (plain))
+
+-- A layer that is no window and stays where it is, apart from the area, and as active as it is, is left as it is.
+pub slot_left : (a : ArrangementView) (c : CellView) → IsSound (bare c).live → StaysApart a (bare c) → c.live.layer.window ≡ None
+    → c.live.active ≡ is_the a.stack.active c.number → IsLeft a c
+slot_left a c sound stays plain active =
+    let r = c.live.bounds in
+    let q = across_live a c r in
+    let w : WindowAfter = record {
+      frame = false;
+      active = c.live.active;
+      change = record {
+        sized = is_resized q;
+        changed = was_live q && not (same_bounds q.bounds q.new_bounds);
+        deactivated = q.active && not q.new_active;
+        activated = q.new_active && not q.active;
+        damaged = false;
+      };
+    } in
+    let after : IsWindowAfter a c r w = record {
+      active = active;
+      done = record { sized = refl; changed = refl; deactivated = refl; activated = refl };
+      frame = λ framed. absurd (false≢true (sym (ap is_framed plain) ∙ framed));
+    } in
+    record {
+      live = stays.live;
+      still = λ glyphs shelf.
+          stays_settled glyphs a shelf c r w stays.live sound stays.bounds stays.same after
+          ∙ ap (λ k. record c { live = k }) (untold q c.live c.live.layer.window plain);
+      bounds = stays.bounds;
+      apart = stays.apart;
+    }
+
 -- what is ready for a slot by its bounds and its state
 pub ready_settled : (glyphs : List (List ℕ)) (a : ArrangementView) (shelf : List (Option Hook)) (c : CellView) (p : Becomes) (gained : List Rectangle)
     (w : WindowAfter) → MayBeReady a c → (c.state ≡ view.Live → IsSound (bare c).live)
@@ -263,9 +320,7 @@ ready_settled glyphs a shelf c p gained w may sound ready filled after = by_case
           may.room,
           across_live a c r,
           (after state r bounds).done,
-          followed_live r c bounds state
-              (sym (stays_filled c (sound state).bits.bitmap)
-              ∙ ap (filled_from b (hook_in c)) (sym ready ∙ cell_is a c (Some r) view.Live bounds state)),
+          stays_settled glyphs a shelf c r w state (sound state) bounds ready (after state r bounds),
         )
     by_cases (Some r) bounds view.Live state Closes ready =
         absurd (cc (state_of_cell _ _ (cell_is a c (Some r) view.Live bounds state), state, state_of_cell _ _ ready.1))

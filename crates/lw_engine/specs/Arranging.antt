@@ -23,7 +23,7 @@ use Rattle.lw_layer.specs.declared.look.Look.{Look}
 use Rattle.lw_stack.specs.Stack.{Stack, bounds_at}
 use Rattle.lw_arrange.specs.Arrangements.{ArrangementView}
 use Rattle.lw_engine.specs.Desks.{AreOfDesk, AreOnShelf, hook_at, no_cell, cell_at}
-use Rattle.lw_engine.specs.Slots.{hook_in, bare, shelf_without, ReadyView, IsSettled, IsReadyFor, nothing_ready}
+use Rattle.lw_engine.specs.Slots.{hook_in, bare, shelf_without, ReadyView, IsSettled, IsReadyFor, IsLeft, nothing_ready}
 
 -- What a call on all layers answers and leaves in each desk with these parts and this shelf of hooks, to which this was handed
 -- in.
@@ -81,10 +81,11 @@ HasSlot many (Create slot make) = slot < many
 HasSlot many (OpenWindow slot make framed nocare asks title) = slot < many
 HasSlot many call = Unit {0}
 
--- every slot with a layer has bounds in LayerInfo's list
+-- every slot with a layer has its bounds in LayerInfo's list
 abbrev pub AreListed : Stack → List CellView → Type 0
 AreListed v cells =
-    (s : ℕ) → s < length cells → (cell_at cells s).state ≡ view.Live → has_bounds (bounds_at v.bounds s) ≡ true
+    (s : ℕ) → s < length cells → (cell_at cells s).state ≡ view.Live
+    → bounds_at v.bounds s ≡ Some (cell_at cells s).live.bounds
 
 -- the slots for which something is ready
 abbrev pub slots_of : List ReadyView → List ℕ
@@ -94,11 +95,13 @@ slots_of ready = map (λ r. r.slot) ready
 abbrev pub AreFor : ArrangementView → List (Option Hook) → List CellView → List ReadyView → Type 0
 AreFor a shelf slots made = All (λ r. (r.slot < length slots) × IsReadyFor a shelf (cell_at slots r.slot) r) made
 
--- something is ready for these slots, in their order
+-- Something is ready once at most for each of these slots, and for no other; those of them for which nothing is ready the
+-- arrangement leaves as they are.
 pub record AreMade (a : ArrangementView) (shelf : List (Option Hook)) (slots : List CellView) (numbers : List ℕ)
     (made : List ReadyView) : Type 0 where
   pub each : AreFor a shelf slots made
-  pub order : slots_of made ≡ numbers
+  pub once : (s : ℕ) → occurrences s (slots_of made) ≤ occurrences s numbers
+  pub others : (s : ℕ) → 0 < occurrences s numbers → occurrences s (slots_of made) ≡ 0 → IsLeft a (cell_at slots s)
 
 -- the slot has no bounds in the list
 abbrev pub is_idle : Stack → ℕ → Bool
@@ -108,11 +111,13 @@ is_idle v s = not (has_bounds (bounds_at v.bounds s))
 abbrev pub is_concerned : Stack → Stack → ℕ → Bool
 is_concerned v w s = has_bounds (bounds_at v.bounds s) || has_bounds (bounds_at w.bounds s)
 
--- Something is ready once for each slot that has bounds before the arrangement or afterwards, and for no other.
+-- Something is ready once at most for each slot that has bounds before the arrangement or afterwards, and for no other; those of
+-- them for which nothing is ready the arrangement leaves as they are.
 pub record AreReady (v : Stack) (a : ArrangementView) (shelf : List (Option Hook)) (slots : List CellView)
     (made : List ReadyView) : Type 0 where
   pub each : AreFor a shelf slots made
-  pub listed : (s : ℕ) → occurrences s (slots_of made) ≡ (if is_concerned v a.stack s then 1 else 0)
+  pub once : (s : ℕ) → occurrences s (slots_of made) ≤ (if is_concerned v a.stack s then 1 else 0)
+  pub others : (s : ℕ) → is_concerned v a.stack s ≡ true → occurrences s (slots_of made) ≡ 0 → IsLeft a (cell_at slots s)
 
 -- what is ready makes of its slots what is told
 abbrev pub AreSettled : List (List ℕ) → (CellView → CellView) → List CellView → List ReadyView → Type 0

@@ -14,6 +14,7 @@ use Rattle.lw_layer.specs.View.{State, LiveView, CellView, keeps, with_layer, wi
 use Rattle.lw_layer.specs.View as view
 use Rattle.lw_layer.specs.Drafts.{IsLiveDraft, live_view, no_layer}
 use Rattle.lw_strips.specs.Strips.{StripView}
+use Rattle.lw_stack.specs.Stack.{bounds_at, LieApart}
 use Rattle.lw_layer.specs.Windows.{HasRoom}
 use Rattle.lw_frames.specs.Framing.{with_own_frame}
 use Rattle.lw_frames.specs.Telling.{IsDone, with_window_told}
@@ -67,6 +68,13 @@ pub record MayBeReady (a : ArrangementView) (c : CellView) : Type 0 where
   pub elsewhere : IsShownElsewhere a (bare c)
   pub idle : (c.state ≡ view.Live → ⊥) → is_the a.stack.active c.number ≡ false
   pub room : HasRoom 5 c
+
+-- The arrangement leaves a live slot as it is: its layer stays where it is and has no place of the area.
+pub record IsLeft (a : ArrangementView) (c : CellView) : Type 0 where
+  pub live : c.state ≡ view.Live
+  pub still : (glyphs : List (List ℕ)) (shelf : List (Option Hook)) → slot_after glyphs a shelf c ≡ c
+  pub bounds : bounds_at a.stack.bounds c.number ≡ Some c.live.bounds
+  pub apart : LieApart a.area c.live.bounds
 
 -- the hook that a slot's layer fills with, by what the slot holds before
 abbrev pub due_hook : ArrangementView → List (Option Hook) → CellView → State → Option Hook

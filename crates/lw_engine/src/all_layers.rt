@@ -18,7 +18,7 @@ ghost use Rattle.lw_stack.specs.Desktop.{IsDesktop};
 ghost use Rattle.lw_arrange.specs.Areas.{HasArea};
 ghost use Rattle.lw_arrange.specs.Pieces.{ArePieces};
 ghost use Rattle.lw_engine.specs.Desks.{AreNumbered, AreOfDesk, AreAsBefore, hook_at, cell_at};
-ghost use Rattle.lw_engine.specs.Slots.{shelf_without, shelf_after, slot_after, IsReadyFor, IsSettled, MayBeReady};
+ghost use Rattle.lw_engine.specs.Slots.{shelf_without, shelf_after, slot_after, IsReadyFor, IsLeft, IsSettled, MayBeReady};
 ghost use Rattle.lw_engine.specs.Arranging.{AreLooks, AreListed, IsTruth, HasSlot, IsFreshSlot, AreMade, AreReady, AreSettled};
 ghost use Rattle.lw_engine.specs.Arranging.{slots_of, with_taken, given_to, given_up, AreChanged, AreChangedAt, IsAllStep};
 ghost use Rattle.lw_engine.specs.Arranging.{DropHooks, IsHookSet, ReplacesHook};
@@ -265,7 +265,8 @@ fn is_fresh<B: Backfill>(info: &Info, slots: &[Slot<B>], call: &Call) -> bool
     }
 }
 
-// Makes everything ready: of the slots in LayerInfo's list, and then of the one that gets a layer. No other slot is looked at.
+// Makes everything ready: of the slots in LayerInfo's list that aren't left as they are, and then of the one that gets a layer.
+// No other slot is looked at.
 fn prepare_all<B: Backfill>(
     alloc: Global,
     info: &Info,
@@ -284,7 +285,7 @@ fn prepare_all<B: Backfill>(
     Ok(made)
 }
 
-// Makes the slots in LayerInfo's list ready, from front to back.
+// Makes the slots in LayerInfo's list ready, from front to back, but for those that the arrangement leaves as they are.
 fn prepare_live<B: Backfill>(
     alloc: Global,
     info: &Info,
@@ -301,7 +302,9 @@ fn prepare_live<B: Backfill>(
 {
     let order = info.order();
     for slot in order {
-        made.push(prepare_one(alloc, slots, shelf, arrangement, *slot)?)?;
+        if !is_left(slots, arrangement, *slot) {
+            made.push(prepare_one(alloc, slots, shelf, arrangement, *slot)?)?;
+        }
     }
     Ok(())
 }
@@ -331,6 +334,15 @@ fn prepare_new<B: Backfill>(
         }
     }
     Ok(())
+}
+
+// Whether the arrangement leaves a slot as it is.
+fn is_left<B: Backfill>(slots: &[Slot<B>], arrangement: &Arrangement, slot: u32) -> bool
+    requires may { (s : ℕ) → s < length slots.now → MayBeReady arrangement.now (cell_at slots.now s) }
+    requires low { slot < length slots.now }
+    ensures { result ≡ true → IsLeft arrangement.now (cell_at slots.now slot) }
+{
+    slots[slot as usize].is_left(arrangement)
 }
 
 // Makes a slot ready.

@@ -20,11 +20,11 @@ ghost use Rattle.lw_arrange.specs.Areas.{IsShownElsewhere};
 ghost use Rattle.lw_arrange.specs.Filled.{AreGained};
 ghost use Rattle.lw_engine.specs.Desks.{hook_at};
 ghost use Rattle.lw_engine.specs.Slots.{asked_hook, bare, filled_as, followed, hook_in, IsStill, IsSettled};
-ghost use Rattle.lw_engine.specs.Slots.{IsReadyFor, MayBeReady};
+ghost use Rattle.lw_engine.specs.Slots.{IsReadyFor, IsLeft, MayBeReady};
 
 use crate::slot::Slot;
-use crate::window_after::{WindowAfter, follow, window_after};
-use lw_arrange::{Arrangement, Becomes, Exchange, gained, prepare, turn_into};
+use crate::window_after::{WindowAfter, follow, is_slot, window_after};
+use lw_arrange::{Arrangement, Becomes, Exchange, gained, prepare, stays_apart, turn_into};
 use lw_backfill::{Backfill, Shelf, Solid};
 use lw_calls::{Assets, Call};
 use lw_frames::paint_own_frame;
@@ -131,6 +131,25 @@ impl<B: Backfill> Slot<B> {
             taken: None,
             window,
         })
+    }
+
+    /// Whether the arrangement leaves the slot as it is, so that nothing has to be made ready: its layer is no window, stays
+    /// where it is, and doesn't meet the area. None of its rectangles is looked at, and no piece.
+    pub(crate) fn is_left(&self, arrangement: &Arrangement) -> bool
+        requires { MayBeReady arrangement.now self.now }
+        ensures { result ≡ true → IsLeft arrangement.now self.now }
+    {
+        let cell = &*self.cell;
+        let Some(look) = cell.look() else {
+            return false;
+        };
+        if look.owner.is_some() {
+            return false;
+        }
+        if look.active != is_slot(arrangement.active(), cell.slot()) {
+            return false;
+        }
+        stays_apart(cell, arrangement)
     }
 
     // Whether the slot's layer has a hook, or is to take one from the shelf.

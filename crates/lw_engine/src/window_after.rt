@@ -76,8 +76,8 @@ pub(crate) fn window_after(cell: &Cell, arrangement: &Arrangement, gained: &Regi
     }
 }
 
-// Whether this slot is named.
-fn is_slot(named: Option<u32>, slot: u32) -> bool
+/// Whether this slot is named.
+pub(crate) fn is_slot(named: Option<u32>, slot: u32) -> bool
     ensures { result ≡ is_the named slot }
 {
     match named {
