@@ -182,7 +182,7 @@ frame_gained c r visible h active new_active rects answer live sound framed are 
     to = stayed r visible c
 
     other : is_super c.live.layer.kind ≡ false
-    other = framed_other (is_super c.live.layer.kind) (is_framed c.live.layer.window) sound.frameless framed
+    other = framed_other (is_super c.live.layer.kind) (is_framed c.live.layer.window) sound.frame.frameless framed
 
     test : ℕ → ℕ → Bool
     test x y = fills q l (revealed q l) x y && not (is_inner q l x y)

@@ -50,7 +50,7 @@ smart_keeps d is ok x y has =
   where
     smart_pixel : (d : LiveDraft) (framed : Bool) → d.kind ≡ Smart → IsLiveDraft d → (x y : ℤ) → may_lie (inner_of false framed (layout d).width (layout d).height) x y ≡ true → holds_at (λ i j. keeps (live_view d) i j) x y ≡ true
     smart_pixel d framed is ok (pos x) (pos y) has =
-        let place = inner_pixel framed (layout d).width (layout d).height x y ok.sizes.columns.0 ok.sizes.rows.0 has in
+        let place = inner_pixel framed (layout d).width (layout d).height x y ok.place.sizes.columns.0 ok.place.sizes.rows.0 has in
         kept_in_bits d x y Smart is place.0 place.1 (λ other. absurd (cc other))
     smart_pixel d framed is ok (pos x) (negsuc y) has = absurd (no_row framed (layout d).width (layout d).height (pos x) y has)
     smart_pixel d framed is ok (negsuc x) y has = absurd (no_column framed (layout d).width (layout d).height x y has)

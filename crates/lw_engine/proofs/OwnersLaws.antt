@@ -182,7 +182,7 @@ have_buffers SuperBitmap c is = ap (λ q. c.visible ++ rest_as q (hidden_of c.bo
 is_made_of : (c : LiveView) (draft : LiveDraft) → IsLiveDraft draft → live_view draft ≡ without_hook c → IsMadeOf c draft
 is_made_of c draft sound is =
     let P : LiveView → Type 0 = λ k. IsMadeOf k draft in
-    let own : P (live_view draft) = record { strips = sound.shown; hidden = sound.rest; sizes = sound.buffers } in
+    let own : P (live_view draft) = record { strips = sound.buffers.shown; hidden = sound.buffers.rest; sizes = sound.buffers.sized } in
     let bare : P (without_hook c) = subst P is own in
     record { strips = bare.strips; hidden = bare.hidden; sizes = bare.sizes }
 

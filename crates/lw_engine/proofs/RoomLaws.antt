@@ -54,7 +54,6 @@ sound_as n k ok = record {
   canonical = ok.canonical;
   scrolled = ok.scrolled;
   hook = ok.hook;
-  frameless = ok.frameless;
   frame = ok.frame;
 }
 

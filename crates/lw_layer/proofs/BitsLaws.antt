@@ -25,7 +25,7 @@ pen_small d x y (Some n) ok is =
 pub live_bits : (d : LiveDraft) → IsLiveDraft d → IsPlanes (live_view d).layer.bits
 live_bits d ok = record {
   bitmap = IsBitmap_bitmap (layout d).width (layout d).height d.depth _ (λ x y left low. pen_small d x y (buffer_at (layout d) x y) ok refl);
-  sizes = ok.sizes;
+  sizes = ok.place.sizes;
 }
 
 -- the same, of the layer that a draft stands for

@@ -20,7 +20,7 @@ pub planes_many : (d : LiveDraft) → length (visible_planes d) ≡ length d.str
 planes_many d = length-map d.strips.items (λ (s : StripView). s.planes)
 
 pub planes_shown : (d : LiveDraft) → IsLiveDraft d → length (visible_planes d) ≡ length d.parts.visible
-planes_shown d ok = planes_many d ∙ (sym (length-map d.strips.items (λ (s : StripView). s.rect)) ∙ ap length ok.shown)
+planes_shown d ok = planes_many d ∙ (sym (length-map d.strips.items (λ (s : StripView). s.rect)) ∙ ap length ok.buffers.shown)
 
 -- the buffer of a visible rectangle
 pub shown_buffer : (d : LiveDraft) (n : ℕ) → n < length d.strips.items → slice_index_or (buffers_of d) n no_bitmap ≡ slice_index_or (visible_planes d) n no_bitmap
@@ -53,7 +53,7 @@ own_buffer d n ok inside past late =
     let hidden = hidden_of d.bounds d.parts.visible in
     let long = length-append d.parts.visible (rest_as d.kind hidden (whole_of (layout d))) in
     let below : k < length (rest_as d.kind hidden (whole_of (layout d))) = omega (arith, planes_shown d ok, planes_many d) in
-    let own = own_after d.kind (length hidden) (length d.covered.items) d.superbits (whole_of (layout d)) hidden k ok.rest refl late below in
+    let own = own_after d.kind (length hidden) (length d.covered.items) d.superbits (whole_of (layout d)) hidden k ok.buffers.rest refl late below in
     record {
       own = own.0;
       is = own.1;
@@ -84,14 +84,14 @@ as_many_buffers d ok =
     let whole = whole_of (layout d) in
     let all = length-append (visible_planes d) (d.covered.items ++ own_list d.superbits) in
     let rectangles = length-append d.parts.visible (rest_as d.kind hidden whole) in
-    let rest = rest_many d.kind hidden whole d.covered.items d.superbits ok.rest in
+    let rest = rest_many d.kind hidden whole d.covered.items d.superbits ok.buffers.rest in
     omega (arith, planes_shown d ok, planes_many d)
 
 -- each buffer is of its rectangle's size
 pub buffer_is : (d : LiveDraft) (n : ℕ) (b : Bitmap) → IsLiveDraft d → n < length (buffered (layout d)) → slice_index_or (buffers_of d) n no_bitmap ≡ b → IsBuffer d.depth (buffer_rectangle (layout d) n) b
 buffer_is d n b ok inside is =
     let P : Bitmap → Type 0 = λ q. IsBuffer d.depth (buffer_rectangle (layout d) n) q in
-    subst P is (ok.buffers.each n inside)
+    subst P is (ok.buffers.sized.each n inside)
 
 -- what becomes of a draft where one of its buffers was changed
 pub changed_shown : (d : LiveDraft) (n : ℕ) (f : Bitmap → Bitmap) (x : StripView) → n < length d.strips.items → x ≡ slice_index_or d.strips.items n x → record d { strips = with_item d.strips n (changed_pens f x) } ≡ changed_buffer n f d

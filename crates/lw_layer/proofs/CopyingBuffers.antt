@@ -44,7 +44,7 @@ shown_each d k s ok inside =
     buffer_moved d.depth _ _ _ _
     (get_or_append_left l.visible (rest_of l) l.bounds k shown)
     (strip_buffer d k s inside)
-    (ok.buffers.each k (omega arith))
+    (ok.buffers.sized.each k (omega arith))
 
 pub shown_planes : (d : LiveDraft) (plane : ℕ) → IsLiveDraft d → plane < d.depth → All (λ (s : StripView). plane < s.planes.depth) d.strips.items
 shown_planes d plane ok deep = λ k s inside. let is = shown_each d k s ok inside in omega (arith, is.planes)
@@ -63,7 +63,7 @@ covered_each : (d : LiveDraft) (k : ℕ) (r : Rectangle) (b : Bitmap) → d.kind
 covered_each d k r b smart ok inside =
     let l = layout d in
     let hidden = hidden_of d.bounds d.parts.visible in
-    let rest = smart_rest d.kind (length hidden) (length d.covered.items) d.superbits smart ok.rest in
+    let rest = smart_rest d.kind (length hidden) (length d.covered.items) d.superbits smart ok.buffers.rest in
     let all : buffered l ≡ l.visible ++ hidden = ap (λ q. l.visible ++ rest_as q hidden (whole_of l)) smart in
     let long : length (buffered l) ≡ length l.visible + length hidden = ap (λ q. length q) all ∙ length-append l.visible hidden in
     let covered : k < length hidden = omega (arith, rest.0) in
@@ -71,7 +71,7 @@ covered_each d k r b smart ok inside =
     buffer_moved d.depth _ _ _ _
     (ap (λ q. get_or q n l.bounds) all ∙ (get_or-append-add l.visible hidden k l.bounds ∙ get_or_default hidden k l.bounds r covered))
     (covered_buffer d n k (omega (arith, planes_shown d ok, planes_many d)) (omega (arith, planes_shown d ok, planes_many d)) inside ∙ get_or_default d.covered.items k no_bitmap b inside)
-    (ok.buffers.each n (omega arith))
+    (ok.buffers.sized.each n (omega arith))
 
 hidden_canonical : (d : LiveDraft) → IsCanonical (hidden_of d.bounds d.parts.visible)
 unfolding hidden_of
@@ -80,7 +80,7 @@ hidden_canonical d = canonical_bands _
 pub covered_buffers : (d : LiveDraft) → d.kind ≡ Smart → IsLiveDraft d → AreBuffers (hidden_of d.bounds d.parts.visible) d.covered.items
 covered_buffers d smart ok =
     let hidden = hidden_of d.bounds d.parts.visible in
-    let rest = smart_rest d.kind (length hidden) (length d.covered.items) d.superbits smart ok.rest in
+    let rest = smart_rest d.kind (length hidden) (length d.covered.items) d.superbits smart ok.buffers.rest in
     record {
       as_many = rest.0;
       sizes = λ k r b inside. sized d.depth _ _ (canonical_ordered hidden (hidden_canonical d) k r inside) (covered_each d k r b smart ok (omega (arith, rest.0)));
@@ -110,7 +110,7 @@ simple_places d plane x y n bits kept simple clear =
 pub smart_places : (d : LiveDraft) (plane : ℕ) (x y : ℤ) (n : ℕ) (bits kept : List ℕ) → d.kind ≡ Smart → IsLiveDraft d → HasPlaces (hidden_of d.bounds d.parts.visible) d.covered.items plane x y n bits kept → HasPlaces (rest_of (layout d)) (rest_buffers d) plane x y n bits kept
 smart_places d plane x y n bits kept smart ok has =
     let hidden = hidden_of d.bounds d.parts.visible in
-    let rest = smart_rest d.kind (length hidden) (length d.covered.items) d.superbits smart ok.rest in
+    let rest = smart_rest d.kind (length hidden) (length d.covered.items) d.superbits smart ok.buffers.rest in
     let buffers : rest_buffers d ≡ d.covered.items = ap (λ o. d.covered.items ++ own_list o) rest.1 ∙ append-nil d.covered.items in
     let P : Kind → Type 0 = λ q. HasPlaces (rest_as q hidden (whole_of (layout d))) (rest_buffers d) plane x y n bits kept in
     let Q : List Bitmap → Type 0 = λ bs. HasPlaces hidden bs plane x y n bits kept in
@@ -177,7 +177,7 @@ pub own_places : (d : LiveDraft) (own : Bitmap) (plane : ℕ) (x : ℤ) (y n : �
 own_places d own plane x y n bits kept super is ok has =
     let l = layout d in
     let hidden = hidden_of d.bounds d.parts.visible in
-    let none = nil_from_length d.covered.items (super_rest d.kind (length hidden) (length d.covered.items) d.superbits super ok.rest) in
+    let none = nil_from_length d.covered.items (super_rest d.kind (length hidden) (length d.covered.items) d.superbits super ok.buffers.rest) in
     let buffers : rest_buffers d ≡ own ∷ [] = ap (λ q. q ++ own_list d.superbits) none ∙ ap (λ o. own_list o) is in
     let moved = places_moved l own plane x y n bits kept (ap (λ o. width_of o d.bounds) is) (ap (λ o. height_of o d.bounds) is) has in
     let P : Kind → Type 0 = λ q. HasPlaces (rest_as q hidden (whole_of l)) (rest_buffers d) plane (across_at l x) (down l y) n bits kept in

@@ -69,7 +69,7 @@ off_buffered : (d : LiveDraft) (x y : ℤ) → IsLiveDraft d → IsOrdered d.bou
 off_buffered d x y ok ordered divided off =
     let l = layout d in
     let place : ℤ = across_at l x in
-    let bounds : has_pixel d.bounds place y ≡ false = and_left _ _ (off_bounds d.bounds.min_x d.bounds.max_x l.scroll_x l.width x ordered.columns ok.scrolled.right off) in
+    let bounds : has_pixel d.bounds place y ≡ false = and_left _ _ (off_bounds d.bounds.min_x d.bounds.max_x l.scroll_x l.width x ordered.columns ok.place.scrolled.right off) in
     let whole : has_pixel (whole_of l) place y ≡ false = and_left _ _ (off_whole d.bounds.min_x l.scroll_x l.width x off) in
     let parts = or_parts (covers d.parts.visible place y) (covers (hidden_of d.bounds d.parts.visible) place y) (divided.cover place y ∙ bounds) in
     covers_append l.visible (rest_of l) place y ∙ or_from _ _ parts.0 (rest_lacks d.kind (hidden_of d.bounds d.parts.visible) (whole_of l) place y parts.1 whole)
@@ -79,7 +79,7 @@ off_buffered_rows : (d : LiveDraft) (x y : ℤ) → IsLiveDraft d → IsOrdered 
 off_buffered_rows d x y ok ordered divided off =
     let l = layout d in
     let place : ℤ = down_at l y in
-    let bounds : has_pixel d.bounds x place ≡ false = and_right _ _ (off_bounds d.bounds.min_y d.bounds.max_y l.scroll_y l.height y ordered.rows ok.scrolled.lower off) in
+    let bounds : has_pixel d.bounds x place ≡ false = and_right _ _ (off_bounds d.bounds.min_y d.bounds.max_y l.scroll_y l.height y ordered.rows ok.place.scrolled.lower off) in
     let whole : has_pixel (whole_of l) x place ≡ false = and_right _ _ (off_whole d.bounds.min_y l.scroll_y l.height y off) in
     let parts = or_parts (covers d.parts.visible x place) (covers (hidden_of d.bounds d.parts.visible) x place) (divided.cover x place ∙ bounds) in
     covers_append l.visible (rest_of l) x place ∙ or_from _ _ parts.0 (rest_lacks d.kind (hidden_of d.bounds d.parts.visible) (whole_of l) x place parts.1 whole)
@@ -210,4 +210,4 @@ past_columns x i u w past fits is = omega (arith, ints)
 
 pub clear_off_columns : (d : LiveDraft) (plane : ℕ) (x y : ℤ) (n : ℕ) (bits kept : List ℕ) → pos 2048 ≤ℤ x → IsLiveDraft d → AreClear bits kept → IsRowOf (live_view d) plane x y n bits kept
 clear_off_columns d plane x y n bits kept past ok clear =
-    clear_row (live_view d) plane x y n bits kept (λ i below. columns_off d (x +ℤ pos i) y (λ u is. past_columns x i u (layout d).width past ok.sizes.columns.1 is)) clear
+    clear_row (live_view d) plane x y n bits kept (λ i below. columns_off d (x +ℤ pos i) y (λ u is. past_columns x i u (layout d).width past ok.place.sizes.columns.1 is)) clear

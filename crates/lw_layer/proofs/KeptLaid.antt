@@ -1,5 +1,5 @@
 -- The pens that a layer keeps, laid on a bitmap.
-use Rattle.std.proofs.Common.{◌≡◌, ℕ, ◌+◌, ◌<◌, ◌≤◌, Bool, true, false, ◌||◌, if◌then◌else◌, List, [], ◌∷◌, ◌++◌, length, refl, Some, None, ◌∙◌, sym, ap, subst, arith, ℤ, pos, negsuc, ◌+ℤ◌, ◌-ℤ◌, ◌≤ℤ◌, unsigned_abs, append-nil, length-append}
+use Rattle.std.proofs.Common.{◌≡◌, ℕ, ◌+◌, ◌<◌, ◌≤◌, true, ◌||◌, if◌then◌else◌, List, [], ◌∷◌, ◌++◌, length, refl, Some, None, ◌∙◌, sym, ap, subst, arith, ℤ, pos, negsuc, ◌+ℤ◌, ◌-ℤ◌, ◌≤ℤ◌, unsigned_abs, append-nil, length-append}
 use Rattle.std.proofs.lemmas.Int.{ints}
 use Rattle.std.proofs.lemmas.List.{nil_from_length}
 use Rattle.lw_region.specs.Rectangle.{Rectangle, IsOrdered}
@@ -55,7 +55,7 @@ simple_laid d left top to simple ok =
 pub smart_laid : (d : LiveDraft) (left top : ℤ) (to new : Bitmap) → d.kind ≡ Smart → IsLiveDraft d → new ≡ with_buffers (hidden_of d.bounds d.parts.visible) d.covered.items left top to → new ≡ with_buffers (rest_of (layout d)) (rest_buffers d) left top to
 smart_laid d left top to new smart ok is =
     let hidden = hidden_of d.bounds d.parts.visible in
-    let rest = smart_rest d.kind (length hidden) (length d.covered.items) d.superbits smart ok.rest in
+    let rest = smart_rest d.kind (length hidden) (length d.covered.items) d.superbits smart ok.buffers.rest in
     let buffers : rest_buffers d ≡ d.covered.items = ap (λ o. d.covered.items ++ own_list o) rest.1 ∙ append-nil d.covered.items in
     let P : Kind → Type 0 = λ q. new ≡ with_buffers (rest_as q hidden (whole_of (layout d))) (rest_buffers d) left top to in
     let Q : List Bitmap → Type 0 = λ bs. new ≡ with_buffers hidden bs left top to in
@@ -73,11 +73,11 @@ pub own_laid : (d : LiveDraft) (own : Bitmap) (left top x y : ℤ) (to new : Bit
 own_laid d own left top x y to new super is ok sound across down made =
     let l = layout d in
     let hidden = hidden_of d.bounds d.parts.visible in
-    let none = nil_from_length d.covered.items (super_rest d.kind (length hidden) (length d.covered.items) d.superbits super ok.rest) in
+    let none = nil_from_length d.covered.items (super_rest d.kind (length hidden) (length d.covered.items) d.superbits super ok.buffers.rest) in
     let buffers : rest_buffers d ≡ own ∷ [] = ap (λ q. q ++ own_list d.superbits) none ∙ ap (λ o. own_list o) is in
     let wide : l.width ≡ own.width = ap (λ o. width_of o d.bounds) is in
     let high : l.height ≡ own.height = ap (λ o. height_of o d.bounds) is in
-    let ordered : IsOrdered (whole_of l) = record { columns = whole_ordered d.bounds.min_x l.scroll_x l.width ok.sizes.columns.0; rows = whole_ordered d.bounds.min_y l.scroll_y l.height ok.sizes.rows.0 } in
+    let ordered : IsOrdered (whole_of l) = record { columns = whole_ordered d.bounds.min_x l.scroll_x l.width ok.place.sizes.columns.0; rows = whole_ordered d.bounds.min_y l.scroll_y l.height ok.place.sizes.rows.0 } in
     let size : IsBufferOf (whole_of l) own = record { columns = whole_size (whole_of l).min_x l.width own.width wide; rows = whole_size (whole_of l).min_y l.height own.height high } in
     let one : new ≡ with_buffers (whole_of l ∷ []) (own ∷ []) left top to = made ∙ (buffer_laid (whole_of l) left top x y to own across down ordered size ∙ laid_one (whole_of l) own left top to sound) in
     let P : Kind → Type 0 = λ q. new ≡ with_buffers (rest_as q hidden (whole_of l)) (rest_buffers d) left top to in
@@ -88,7 +88,7 @@ own_laid d own left top x y to new super is ok sound across down made =
 pub all_laid : (d : LiveDraft) (left top : ℤ) (to was new : Bitmap) → IsLiveDraft d → was ≡ with_buffers (rest_of (layout d)) (rest_buffers d) left top to → new ≡ with_buffers (rects_of d.strips.items) (visible_planes d) left top was
     → new ≡ with_buffers (buffered (layout d)) (buffers_of d) left top to
 all_laid d left top to was new ok before is =
-    is ∙ (ap (λ rs. with_buffers rs (visible_planes d) left top was) ok.shown ∙ (ap (with_buffers d.parts.visible (visible_planes d) left top) before ∙ laid_over d.parts.visible (rest_of (layout d)) (visible_planes d) (rest_buffers d) left top to (planes_shown d ok)))
+    is ∙ (ap (λ rs. with_buffers rs (visible_planes d) left top was) ok.buffers.shown ∙ (ap (with_buffers d.parts.visible (visible_planes d) left top) before ∙ laid_over d.parts.visible (rest_of (layout d)) (visible_planes d) (rest_buffers d) left top to (planes_shown d ok)))
 
 -- the bitmap keeps its planes
 pub laid_planes : (rects : List Rectangle) (bs : List Bitmap) (left top : ℤ) (to was : Bitmap) → was ≡ with_buffers rects bs left top to → was.depth ≡ to.depth
@@ -100,10 +100,10 @@ start_is z low place (pos n) from is = is
 start_is z low place (negsuc n) from is = absurd (omega (arith, ints))
 
 pub left_is : (d : LiveDraft) (z x : ℤ) → IsLiveDraft d → z ≡ (d.bounds.min_x +ℤ x) -ℤ d.scroll_x → z ≡ across_at (layout d) x
-left_is d z x ok is = start_is z d.bounds.min_x x d.scroll_x ok.scroll_x is
+left_is d z x ok is = start_is z d.bounds.min_x x d.scroll_x ok.place.scroll_x is
 
 pub top_is : (d : LiveDraft) (z y : ℤ) → IsLiveDraft d → z ≡ (d.bounds.min_y +ℤ y) -ℤ d.scroll_y → z ≡ down_at (layout d) y
-top_is d z y ok is = start_is z d.bounds.min_y y d.scroll_y ok.scroll_y is
+top_is d z y ok is = start_is z d.bounds.min_y y d.scroll_y ok.place.scroll_y is
 
 pub corner_is : (low z by : ℤ) (scroll : ℤ) → pos 0 ≤ℤ scroll → z ≡ (low +ℤ pos 0) -ℤ scroll → z -ℤ by ≡ (low -ℤ pos (unsigned_abs scroll)) -ℤ by
 corner_is low z by (pos n) from is = omega (arith, ints)
@@ -114,7 +114,7 @@ pub own_deep : (d : LiveDraft) (own : Bitmap) → d.kind ≡ SuperBitmap → d.s
 own_deep d own super is ok =
     let hidden = hidden_of d.bounds d.parts.visible in
     let n : ℕ = length d.parts.visible in
-    let none = super_rest d.kind (length hidden) (length d.covered.items) d.superbits super ok.rest in
+    let none = super_rest d.kind (length hidden) (length d.covered.items) d.superbits super ok.buffers.rest in
     let list : buffered (layout d) ≡ d.parts.visible ++ (whole_of (layout d) ∷ []) = ap (λ q. d.parts.visible ++ rest_as q hidden (whole_of (layout d))) super in
     let long : length (buffered (layout d)) ≡ n + 1 = ap (λ rs. length rs) list ∙ length-append d.parts.visible (whole_of (layout d) ∷ []) in
     let inside : n < length (buffered (layout d)) = omega arith in
@@ -156,9 +156,9 @@ visible_pen d x y ok ordered divided shown =
 -- The strips have the pens that the layer shows.
 pub shown_pens : (d : LiveDraft) → IsLiveDraft d → IsOrdered d.bounds → AreDivided d.bounds d.parts.visible (hidden_of d.bounds d.parts.visible) → HaveShown (live_view d) d.strips.items
 shown_pens d ok ordered divided = record {
-  solid = ok.solid;
+  solid = ok.buffers.solid;
   planes = shown_deep d d.depth ok refl;
   pens =
       λ x y shown.
-      strip_pens d.strips.items (pos x) (pos y) ∙ (ap (λ rs. pen_in rs (visible_planes d) (pos x) (pos y)) ok.shown ∙ visible_pen d x y ok ordered divided shown);
+      strip_pens d.strips.items (pos x) (pos y) ∙ (ap (λ rs. pen_in rs (visible_planes d) (pos x) (pos y)) ok.buffers.shown ∙ visible_pen d x y ok ordered divided shown);
 }

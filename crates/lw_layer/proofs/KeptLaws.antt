@@ -142,9 +142,9 @@ plain_size SuperBitmap hidden covered own bounds plain rest = absurd (cc plain)
 in_bounds : (d : LiveDraft) (x y : ℕ) → d.kind ≡ Smart → IsLiveDraft d → IsOrdered d.bounds → x < (layout d).width → y < (layout d).height → has_pixel d.bounds (across (layout d) x) (down (layout d) y) ≡ true
 in_bounds d x y is ok ordered left low =
     let plain : is_super d.kind ≡ false = ap is_super is in
-    let size = plain_size d.kind _ _ d.superbits d.bounds plain ok.rest in
-    let still_x = ok.scrolled.left plain in
-    let still_y = ok.scrolled.upper plain in
+    let size = plain_size d.kind _ _ d.superbits d.bounds plain ok.buffers.rest in
+    let still_x = ok.place.scrolled.left plain in
+    let still_y = ok.place.scrolled.upper plain in
     let column : x < width d.bounds = omega (arith, size.0) in
     let row : y < height d.bounds = omega (arith, size.1) in
     and_from _ _ (bounds_within d.bounds.min_x d.bounds.max_x (layout d).scroll_x x still_x ordered.columns column) (bounds_within d.bounds.min_y d.bounds.max_y (layout d).scroll_y y still_y ordered.rows row)

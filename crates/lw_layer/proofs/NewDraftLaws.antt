@@ -264,23 +264,25 @@ new_sound d kind make depth bounds visible window is size frameless frame shown 
     let blank = strips_blank depth visible d.strips.items shown in
     let own : is_super kind ≡ true → AreSizes make.bits_w make.bits_h depth = λ super. size.own (ap is_super is ∙ super) in
     record {
-      bounds = refl;
-      scroll_x = record { le = tt };
-      scroll_y = record { le = tt };
-      sizes = new_sizes kind make depth bounds is size;
-      scrolled = record { left = λ other. refl; upper = λ other. refl; right = right.0; lower = right.1 };
+      place = record {
+        bounds = refl;
+        scroll_x = record { le = tt };
+        scroll_y = record { le = tt };
+        sizes = new_sizes kind make depth bounds is size;
+        scrolled = record { left = λ other. refl; upper = λ other. refl; right = right.0; lower = right.1 };
+      };
       mode = omega arith;
-      shown = strips_rects depth visible d.strips.items shown;
-      solid = strips_solid depth visible d.strips.items shown;
-      rest = rest_counted kind depth make (hidden_of bounds visible) d.covered.items covered;
-      buffers =
-          joined depth visible (rest_as kind (hidden_of bounds visible) (whole_of (layout q))) (visible_planes d) (d.covered.items ++ own_list (own_blank kind depth make)) bounds
-          (blank_counted depth visible (visible_planes d) blank) (blank_are depth visible (visible_planes d) bounds blank)
-          (rest_are kind depth (layout q) make (hidden_of bounds visible) d.covered.items bounds covered own (new_own kind make depth bounds));
-      inner = new_inner kind (is_framed (window_of window)) make depth bounds;
-      damaged = λ x y has. absurd (cc (covers_nil x y, has));
-      frameless = frameless;
-      frame = frame;
+      buffers = record {
+        shown = strips_rects depth visible d.strips.items shown;
+        solid = strips_solid depth visible d.strips.items shown;
+        rest = rest_counted kind depth make (hidden_of bounds visible) d.covered.items covered;
+        sized =
+            joined depth visible (rest_as kind (hidden_of bounds visible) (whole_of (layout q))) (visible_planes d) (d.covered.items ++ own_list (own_blank kind depth make)) bounds
+            (blank_counted depth visible (visible_planes d) blank) (blank_are depth visible (visible_planes d) bounds blank)
+            (rest_are kind depth (layout q) make (hidden_of bounds visible) d.covered.items bounds covered own (new_own kind make depth bounds));
+      };
+      damage = record { inner = new_inner kind (is_framed (window_of window)) make depth bounds; kept = λ x y has. absurd (cc (covers_nil x y, has)) };
+      frame = record { frameless = frameless; room = frame };
     }
 
 -- the machine's blank bitmap, by its size

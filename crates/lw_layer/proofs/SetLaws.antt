@@ -13,56 +13,29 @@ use Rattle.lw_layer.specs.declared.draft.LiveDraft.{LiveDraft}
 pub clip_replaced : (d : LiveDraft) (clip : Option (List Rectangle)) → IsLiveDraft d → IsLiveDraft (record d { clip = clip })
 unfolding keeps is_kept
 clip_replaced d clip ok = record {
-  bounds = ok.bounds;
-  scroll_x = ok.scroll_x;
-  scroll_y = ok.scroll_y;
-  sizes = ok.sizes;
-  scrolled = ok.scrolled;
+  place = ok.place;
   mode = ok.mode;
-  shown = ok.shown;
-  solid = ok.solid;
-  rest = ok.rest;
   buffers = ok.buffers;
-  inner = ok.inner;
-  damaged = ok.damaged;
-  frameless = ok.frameless;
+  damage = ok.damage;
   frame = ok.frame;
 }
 
 pub raster_replaced : (d : LiveDraft) (raster : Raster) → raster.mode < 8 → IsLiveDraft d → IsLiveDraft (record d { raster = raster })
 unfolding keeps is_kept
 raster_replaced d raster mode ok = record {
-  bounds = ok.bounds;
-  scroll_x = ok.scroll_x;
-  scroll_y = ok.scroll_y;
-  sizes = ok.sizes;
-  scrolled = ok.scrolled;
+  place = ok.place;
   mode = mode;
-  shown = ok.shown;
-  solid = ok.solid;
-  rest = ok.rest;
   buffers = ok.buffers;
-  inner = ok.inner;
-  damaged = ok.damaged;
-  frameless = ok.frameless;
+  damage = ok.damage;
   frame = ok.frame;
 }
 
 pub damage_replaced : (d : LiveDraft) (damage : Damaged) → damage.inner ≡ inner_in (live_view d) → ((x y : ℤ) → covers damage.rects x y ≡ true → holds_at (λ i j. keeps (live_view d) i j) x y ≡ true) → IsLiveDraft d → IsLiveDraft (record d { damage = damage })
 unfolding keeps is_kept
 damage_replaced d damage inner kept ok = record {
-  bounds = ok.bounds;
-  scroll_x = ok.scroll_x;
-  scroll_y = ok.scroll_y;
-  sizes = ok.sizes;
-  scrolled = ok.scrolled;
+  place = ok.place;
   mode = ok.mode;
-  shown = ok.shown;
-  solid = ok.solid;
-  rest = ok.rest;
   buffers = ok.buffers;
-  inner = inner;
-  damaged = kept;
-  frameless = ok.frameless;
+  damage = record { inner = inner; kept = kept };
   frame = ok.frame;
 }

@@ -49,14 +49,13 @@ pub live_sound : (d : LiveDraft) → IsLiveDraft d → IsOrdered d.bounds → Is
 live_sound d ok ordered canonical divided = record {
   bits = live_bits d ok;
   off_kept = off_kept d;
-  wide = λ plain. (plain_size d.kind _ _ d.superbits d.bounds plain ok.rest).0;
-  high = λ plain. (plain_size d.kind _ _ d.superbits d.bounds plain ok.rest).1;
+  wide = λ plain. (plain_size d.kind _ _ d.superbits d.bounds plain ok.buffers.rest).0;
+  high = λ plain. (plain_size d.kind _ _ d.superbits d.bounds plain ok.buffers.rest).1;
   ordered = ordered;
   inside = visible_inside d.bounds d.parts.visible _ divided;
   canonical = canonical;
-  scrolled = ok.scrolled;
+  scrolled = ok.place.scrolled;
   hook = refl;
-  frameless = ok.frameless;
   frame = ok.frame;
 }
 

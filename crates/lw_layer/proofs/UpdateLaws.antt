@@ -14,13 +14,13 @@ use Rattle.lw_layer.proofs.SetLaws.{damage_replaced}
 pub update_begun : (d : LiveDraft) (damage : Damaged) → damage ≡ record d.damage { updating = true } → IsLiveDraft d → IsLiveDraft (record d { damage = damage })
 update_begun d damage is ok =
     let P : Damaged → Type 0 = λ m. IsLiveDraft (record d { damage = m }) in
-    subst P (sym is) (damage_replaced d (record d.damage { updating = true }) ok.inner ok.damaged ok)
+    subst P (sym is) (damage_replaced d (record d.damage { updating = true }) ok.damage.inner ok.damage.kept ok)
 
 -- the end of an update
 end_kept : (d : LiveDraft) (full : Bool) → IsLiveDraft d → IsLiveDraft (record d { damage = ended d.damage full })
 unfolding covers
-end_kept d true ok = damage_replaced d (ended d.damage true) ok.inner (λ x y covered. absurd (cc covered)) ok
-end_kept d false ok = damage_replaced d (ended d.damage false) ok.inner ok.damaged ok
+end_kept d true ok = damage_replaced d (ended d.damage true) ok.damage.inner (λ x y covered. absurd (cc covered)) ok
+end_kept d false ok = damage_replaced d (ended d.damage false) ok.damage.inner ok.damage.kept ok
 
 pub update_ended : (d : LiveDraft) (damage : Damaged) (full : Bool) → damage ≡ ended d.damage full → IsLiveDraft d → IsLiveDraft (record d { damage = damage })
 update_ended d damage full is ok =

@@ -96,6 +96,6 @@ with_bits c b = record c { layer = record c.layer { bits = b } }
 pub view_of_set : (d : LiveDraft) (n k line : ℕ) (bytes : List ℕ) (bs : List Bitmap) → IsLiveDraft d → n < length (buffered (layout d)) → bs ≡ set (buffers_of d) n (with_row (slice_index_or (buffers_of d) n no_bitmap) k line bytes) → with_bits (live_view d) (bits_of (layout d) d.depth bs) ≡ with_bytes (live_view d) k n line bytes
 unfolding with_bytes
 view_of_set d n k line bytes bs ok there is =
-    let buffer = ok.buffers.each n there in
+    let buffer = ok.buffers.sized.each n there in
     ap (λ b. with_bits (live_view d) (bits_of (layout d) d.depth b)) is ∙
     ap (with_bits (live_view d)) (bits_written (layout d) d.depth (buffers_of d) n k line bytes (as_many_buffers d ok) buffer there)

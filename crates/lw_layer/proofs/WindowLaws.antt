@@ -13,20 +13,14 @@ use Rattle.lw_layer.specs.declared.windows.WindowDraft.{WindowDraft}
 pub window_replaced : (d : LiveDraft) (w : Option WindowDraft) → is_framed (window_of w) ≡ is_framed (window_of d.window) → IsLiveDraft d → IsLiveDraft (record d { window = w })
 unfolding keeps is_kept
 window_replaced d w same ok = record {
-  bounds = ok.bounds;
-  scroll_x = ok.scroll_x;
-  scroll_y = ok.scroll_y;
-  sizes = ok.sizes;
-  scrolled = ok.scrolled;
+  place = ok.place;
   mode = ok.mode;
-  shown = ok.shown;
-  solid = ok.solid;
-  rest = ok.rest;
   buffers = ok.buffers;
-  inner = ok.inner ∙ ap (λ f. inner_of (is_super d.kind) f (layout d).width (layout d).height) (sym same);
-  damaged = ok.damaged;
-  frameless = λ own. same ∙ ok.frameless own;
-  frame = λ framed. ok.frame (sym same ∙ framed);
+  damage = record {
+    inner = ok.damage.inner ∙ ap (λ f. inner_of (is_super d.kind) f (layout d).width (layout d).height) (sym same);
+    kept = ok.damage.kept;
+  };
+  frame = rw same ok.frame;
 }
 
 -- a change of a window that leaves it its frame
@@ -41,18 +35,9 @@ window_changed d w f is same ok = window_replaced d w (ap is_framed is ∙ frame
 pub active_replaced : (d : LiveDraft) (active : Bool) → IsLiveDraft d → IsLiveDraft (record d { active = active })
 unfolding keeps is_kept
 active_replaced d active ok = record {
-  bounds = ok.bounds;
-  scroll_x = ok.scroll_x;
-  scroll_y = ok.scroll_y;
-  sizes = ok.sizes;
-  scrolled = ok.scrolled;
+  place = ok.place;
   mode = ok.mode;
-  shown = ok.shown;
-  solid = ok.solid;
-  rest = ok.rest;
   buffers = ok.buffers;
-  inner = ok.inner;
-  damaged = ok.damaged;
-  frameless = ok.frameless;
+  damage = ok.damage;
   frame = ok.frame;
 }

@@ -53,7 +53,7 @@ written d n k line bytes = with_row (slice_index_or (buffers_of d) n no_bitmap) 
 all_buffers : (d : LiveDraft) (n k line : ℕ) (bytes : List ℕ) (bs : List Bitmap) → IsLiveDraft d → n < length (buffered (layout d)) → bs ≡ set (buffers_of d) n (written d n k line bytes) → AreBuffers d.depth (buffered (layout d)) bs d.bounds
 all_buffers d n k line bytes bs ok there is =
     let P : List Bitmap → Type 0 = λ q. AreBuffers d.depth (buffered (layout d)) q d.bounds in
-    subst P (sym is) (buffers_set d.depth (buffered (layout d)) (buffers_of d) d.bounds n _ ok.buffers (as_many_buffers d ok) there (buffer_written d.depth _ _ k line bytes (ok.buffers.each n there)))
+    subst P (sym is) (buffers_set d.depth (buffered (layout d)) (buffers_of d) d.bounds n _ ok.buffers.sized (as_many_buffers d ok) there (buffer_written d.depth _ _ k line bytes (ok.buffers.sized.each n there)))
 
 -- the strips as they become: the rectangles stay
 strips_changed : (d : LiveDraft) (n : ℕ) (f : Bitmap → Bitmap) → n < length d.strips.items
@@ -79,19 +79,15 @@ written_shown d n k line bytes ok there inside =
     ∙ sym (set-append_left (visible_planes d) (d.covered.items ++ own_list d.superbits) n _ (omega (arith, planes_many d))) in
     record {
       sound = record {
-        bounds = ok.bounds;
-        scroll_x = ok.scroll_x;
-        scroll_y = ok.scroll_y;
-        sizes = ok.sizes;
-        scrolled = ok.scrolled;
+        place = ok.place;
         mode = ok.mode;
-        shown = strips_changed d n f inside ∙ ok.shown;
-        solid = All-set S d.strips.items n (changed_pens f one) (All-get_or S d.strips.items n no_strip inside ok.solid) ok.solid;
-        rest = ok.rest;
-        buffers = all_buffers d n k line bytes _ ok there same;
-        inner = ok.inner;
-        damaged = ok.damaged;
-        frameless = ok.frameless;
+        buffers = record {
+          shown = strips_changed d n f inside ∙ ok.buffers.shown;
+          solid = All-set S d.strips.items n (changed_pens f one) (All-get_or S d.strips.items n no_strip inside ok.buffers.solid) ok.buffers.solid;
+          rest = ok.buffers.rest;
+          sized = all_buffers d n k line bytes _ ok there same;
+        };
+        damage = ok.damage;
         frame = ok.frame;
       };
       view = view_of_set d n k line bytes _ ok there same;
@@ -106,19 +102,15 @@ written_covered d n k line bytes ok there past inside =
     sym (set-append_right (visible_planes d) (d.covered.items ++ own_list d.superbits) _ n _ (planes_many d) past ∙ ap (λ q. visible_planes d ++ q) (set-append_left d.covered.items (own_list d.superbits) i _ inside)) in
     record {
       sound = record {
-        bounds = ok.bounds;
-        scroll_x = ok.scroll_x;
-        scroll_y = ok.scroll_y;
-        sizes = ok.sizes;
-        scrolled = ok.scrolled;
+        place = ok.place;
         mode = ok.mode;
-        shown = ok.shown;
-        solid = ok.solid;
-        rest = rw (length-set d.covered.items i (written d n k line bytes)) ok.rest;
-        buffers = all_buffers d n k line bytes _ ok there same;
-        inner = ok.inner;
-        damaged = ok.damaged;
-        frameless = ok.frameless;
+        buffers = record {
+          shown = ok.buffers.shown;
+          solid = ok.buffers.solid;
+          rest = rw (length-set d.covered.items i (written d n k line bytes)) ok.buffers.rest;
+          sized = all_buffers d n k line bytes _ ok there same;
+        };
+        damage = ok.damage;
         frame = ok.frame;
       };
       view = view_of_set d n k line bytes _ ok there same;
@@ -153,19 +145,15 @@ written_own d b n k line bytes ok there past late at =
     last_set (visible_planes d) d.covered.items b _ n (omega (arith, planes_many d)) (omega (arith, planes_many d)) inside ∙ ap (λ w. set (buffers_of q) n (with_row w k line bytes)) (sym at) in
     record {
       sound = record {
-        bounds = ok.bounds;
-        scroll_x = ok.scroll_x;
-        scroll_y = ok.scroll_y;
-        sizes = ok.sizes;
-        scrolled = ok.scrolled;
+        place = ok.place;
         mode = ok.mode;
-        shown = ok.shown;
-        solid = ok.solid;
-        rest = rest_written d.kind _ _ b _ ok.rest;
-        buffers = all_buffers q n k line bytes _ ok there same;
-        inner = ok.inner;
-        damaged = ok.damaged;
-        frameless = ok.frameless;
+        buffers = record {
+          shown = ok.buffers.shown;
+          solid = ok.buffers.solid;
+          rest = rest_written d.kind _ _ b _ ok.buffers.rest;
+          sized = all_buffers q n k line bytes _ ok there same;
+        };
+        damage = ok.damage;
         frame = ok.frame;
       };
       view = view_of_set q n k line bytes _ ok there same;

@@ -1,5 +1,5 @@
 -- Which slot a draft stands for, and what has to hold of a draft.
-use Rattle.std.specs.Prelude.{◌≡◌, ℕ, ◌+◌, ◌<◌, ◌≤◌, true, false, List, [], ◌∷◌, ◌++◌, length, ℤ, pos, ◌≤ℤ◌, unsigned_abs}
+use Rattle.std.specs.Prelude.{◌≡◌, ℕ, ◌+◌, ◌<◌, ◌≤◌, Bool, true, false, List, [], ◌∷◌, ◌++◌, length, ℤ, pos, ◌≤ℤ◌, unsigned_abs}
 use Rattle.std.specs.Prelude.{Option, Some, None}
 use Rattle.std.specs.List.{All, slice_index_or}
 use Rattle.lw_region.specs.Rectangle.{Rectangle, width, height}
@@ -12,6 +12,7 @@ use Rattle.lw_calls.specs.declared.make.Kind.{Kind}
 use Rattle.lw_calls.specs.declared.make.Kind.TheVariants.{Simple, Smart, SuperBitmap}
 use Rattle.lw_calls.specs.Kinds.{is_super}
 use Rattle.lw_cliprects.specs.Parts.{hidden_of}
+use Rattle.lw_damage.specs.Damaged.{Damaged}
 use Rattle.lw_machine.specs.Layer.{Raster, Window, new_raster, is_framed}
 use Rattle.lw_machine.specs.Kept.{holds_at}
 use Rattle.lw_layer.specs.View.{State, LiveView, CellView, keeps}
@@ -154,22 +155,39 @@ pub record IsScrolled (l : Layout) : Type 0 where
   pub right : l.scroll_x + width l.bounds ≤ l.width
   pub lower : l.scroll_y + height l.bounds ≤ l.height
 
+-- Where a layer lies: in the bounds that were divided, by a scroll that isn't negative, and its bits have sizes for planes.
+pub record IsLaidOut (l : Layout) (depth : ℕ) (divided : Rectangle) (x y : ℤ) : Type 0 where
+  pub bounds : divided ≡ l.bounds
+  pub scroll_x : pos 0 ≤ℤ x
+  pub scroll_y : pos 0 ≤ℤ y
+  pub sizes : AreSizes l.width l.height depth
+  pub scrolled : IsScrolled l
+
+-- Its buffers: solid strips for its visible rectangles, and the rest that its kind has, each of its rectangle's size.
+pub record HasBuffers
+    (l : Layout) (depth : ℕ) (strips : List StripView) (covered : List Bitmap) (own : Option Bitmap) : Type 0 where
+  pub shown : rects_of strips ≡ l.visible
+  pub solid : All (λ s. s.solid ≡ true) strips
+  pub rest : IsRest l.kind (length (hidden_of l.bounds l.visible)) (length covered) own
+  pub sized : AreBuffers depth (buffered l) (planes_of strips ++ (covered ++ own_list own)) l.bounds
+
+-- Its damage: it has this inner rectangle, and is on pixels that are kept.
+pub record IsDamageWithin (within : Option Rectangle) (keep : ℕ → ℕ → Bool) (damage : Damaged) : Type 0 where
+  pub inner : damage.inner ≡ within
+  pub kept : (x y : ℤ) → covers damage.rects x y ≡ true → holds_at keep x y ≡ true
+
+-- Its frame, if it has one: it is no super-bitmap layer, and the frame has room in the bounds.
+pub record FitsFrame (kind : Kind) (framed : Bool) (bounds : Rectangle) : Type 0 where
+  pub frameless : is_super kind ≡ true → framed ≡ false
+  pub room : framed ≡ true → HasFrameRoom bounds
+
 -- What has to hold of the draft of a live layer.
 pub record IsLiveDraft (d : LiveDraft) : Type 0 where
-  pub bounds : d.parts.bounds ≡ d.bounds
-  pub scroll_x : pos 0 ≤ℤ d.scroll_x
-  pub scroll_y : pos 0 ≤ℤ d.scroll_y
-  pub sizes : AreSizes (layout d).width (layout d).height d.depth
-  pub scrolled : IsScrolled (layout d)
+  pub place : IsLaidOut (layout d) d.depth d.parts.bounds d.scroll_x d.scroll_y
   pub mode : d.raster.mode < 8
-  pub shown : rects_of d.strips.items ≡ d.parts.visible
-  pub solid : All (λ s. s.solid ≡ true) d.strips.items
-  pub rest : IsRest d.kind (length (hidden_of d.bounds d.parts.visible)) (length d.covered.items) d.superbits
-  pub buffers : AreBuffers d.depth (buffered (layout d)) (buffers_of d) d.bounds
-  pub inner : d.damage.inner ≡ inner_in (live_view d)
-  pub damaged : (x y : ℤ) → covers d.damage.rects x y ≡ true → holds_at (λ i j. keeps (live_view d) i j) x y ≡ true
-  pub frameless : is_super d.kind ≡ true → is_framed (window_of d.window) ≡ false
-  pub frame : is_framed (window_of d.window) ≡ true → HasFrameRoom d.bounds
+  pub buffers : HasBuffers (layout d) d.depth d.strips.items d.covered.items d.superbits
+  pub damage : IsDamageWithin (inner_in (live_view d)) (λ x y. keeps (live_view d) x y) d.damage
+  pub frame : FitsFrame d.kind (is_framed (window_of d.window)) d.bounds
 
 -- what has to hold of what a draft says of its slot
 abbrev pub IsState : DraftState → Type 0

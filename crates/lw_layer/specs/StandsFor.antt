@@ -1,5 +1,5 @@
 -- Which part of a desk a cell stands for, and what holds of every live layer.
-use Rattle.std.specs.Prelude.{◌≡◌, ℕ, true, false, ℤ, Some, None}
+use Rattle.std.specs.Prelude.{◌≡◌, ℕ, false, ℤ, Some, None}
 use Rattle.lw_region.specs.Rectangle.{IsOrdered, width, height}
 use Rattle.lw_region.specs.Bands.{covers}
 use Rattle.lw_region.specs.Banded.{IsCanonical}
@@ -12,8 +12,8 @@ use Rattle.lw_machine.specs.Layer as layer
 use Rattle.lw_machine.specs.Parts.{SlotPart}
 use Rattle.lw_layer.specs.View.{State, LiveView, CellView, keeps}
 use Rattle.lw_layer.specs.View as view
-use Rattle.lw_layer.specs.Pieces.{layout_of, HasFrameRoom}
-use Rattle.lw_layer.specs.Drafts.{IsScrolled}
+use Rattle.lw_layer.specs.Pieces.{layout_of}
+use Rattle.lw_layer.specs.Drafts.{IsScrolled, FitsFrame}
 
 -- the machine's slot, by what the state and the live layer of a cell say
 abbrev pub slot_of : State → LiveView → Slot
@@ -52,5 +52,4 @@ pub record IsSound (c : LiveView) : Type 0 where
   pub canonical : IsCanonical c.visible
   pub scrolled : IsScrolled (layout_of c)
   pub hook : c.layer.hook ≡ None
-  pub frameless : is_super c.layer.kind ≡ true → is_framed c.layer.window ≡ false
-  pub frame : is_framed c.layer.window ≡ true → HasFrameRoom c.bounds
+  pub frame : FitsFrame c.layer.kind (is_framed c.layer.window) c.bounds

@@ -65,7 +65,7 @@ whole_without_bitmap SuperBitmap d without_bitmap = absurd (cc without_bitmap)
 pub size_without_bitmap : (d : LiveDraft) (k : Change) → is_super d.kind ≡ false → IsLiveDraft d
     → ((layout (changed_draft d k)).width ≡ width k.bounds) × ((layout (changed_draft d k)).height ≡ height k.bounds)
 size_without_bitmap d k without_bitmap ok =
-    let none = whole_without_bitmap d.kind d without_bitmap ∙ none_without_bitmap d.kind _ _ d.superbits without_bitmap ok.rest in
+    let none = whole_without_bitmap d.kind d without_bitmap ∙ none_without_bitmap d.kind _ _ d.superbits without_bitmap ok.buffers.rest in
     (ap (λ o. width_of o k.bounds) none, ap (λ o. height_of o k.bounds) none)
 
 pub super_size : (d : LiveDraft) (k : Change) → is_super d.kind ≡ true
@@ -206,7 +206,7 @@ whole_sizes d k n ok super last =
     let wide : width (whole_of l) ≡ (layout d).width = whole_extent l.bounds.min_x l.scroll_x l.width ∙ size.0 in
     let high : height (whole_of l) ≡ (layout d).height = whole_extent l.bounds.min_y l.scroll_y l.height ∙ size.1 in
     let P : Rectangle → Type 0 = λ q. AreSizes (width q) (height q) d.depth in
-    subst P (sym (whole_rectangle l d.kind n refl super last)) (subst (λ w. AreSizes w (height (whole_of l)) d.depth) (sym wide) (subst (λ h. AreSizes (layout d).width h d.depth) (sym high) ok.sizes))
+    subst P (sym (whole_rectangle l d.kind n refl super last)) (subst (λ w. AreSizes w (height (whole_of l)) d.depth) (sym wide) (subst (λ h. AreSizes (layout d).width h d.depth) (sym high) ok.place.sizes))
 
 rectangle_sizes : (d : LiveDraft) (k : Change) (n : ℕ) → IsLiveDraft d → IsMade d k
     → n < length (buffered (layout (changed_draft d k)))

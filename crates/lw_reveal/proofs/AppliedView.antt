@@ -63,7 +63,7 @@ super_kept d k x y super = let size = super_size d k super in rw (size.0, size.1
 -- the size of the bits, by kind
 sizes_by : (d : LiveDraft) (k : Change) (t : Bool) → is_super d.kind ≡ t → IsLiveDraft d → IsMade d k
     → AreSizes (layout (changed_draft d k)).width (layout (changed_draft d k)).height d.depth
-sizes_by d k true super ok made = let size = super_size d k super in rw (size.0, size.1) ok.sizes
+sizes_by d k true super ok made = let size = super_size d k super in rw (size.0, size.1) ok.place.sizes
 sizes_by d k false without_bitmap ok made = let size = size_without_bitmap d k without_bitmap ok in rw (size.0, size.1) made.size.sizes
 
 scrolled_by : (d : LiveDraft) (k : Change) (t : Bool) → is_super d.kind ≡ t → IsLiveDraft d → IsMade d k
@@ -71,18 +71,18 @@ scrolled_by : (d : LiveDraft) (k : Change) (t : Bool) → is_super d.kind ≡ t 
 scrolled_by d k true super ok made =
     let size = super_size d k super in
     record {
-      left = ok.scrolled.left;
-      upper = ok.scrolled.upper;
+      left = ok.place.scrolled.left;
+      upper = ok.place.scrolled.upper;
       right = omega (arith, size.0, made.size.right super);
       lower = omega (arith, size.1, made.size.lower super);
     }
 scrolled_by d k false without_bitmap ok made =
     let size = size_without_bitmap d k without_bitmap ok in
     record {
-      left = ok.scrolled.left;
-      upper = ok.scrolled.upper;
-      right = omega (arith, size.0, ok.scrolled.left without_bitmap);
-      lower = omega (arith, size.1, ok.scrolled.upper without_bitmap);
+      left = ok.place.scrolled.left;
+      upper = ok.place.scrolled.upper;
+      right = omega (arith, size.0, ok.place.scrolled.left without_bitmap);
+      lower = omega (arith, size.1, ok.place.scrolled.upper without_bitmap);
     }
 
 inner_by : (d : LiveDraft) (k : Change) (t : Bool) → is_super d.kind ≡ t → IsLiveDraft d → IsMade d k
@@ -105,20 +105,22 @@ rest_changed SuperBitmap former covered many d hidden rest is = (is, (live_view 
 -- The draft with the carried buffers is one.
 pub changed_sound : (d : LiveDraft) (k : Change) → IsLiveDraft d → IsMade d k → IsLiveDraft (changed_draft d k)
 changed_sound d k ok made = record {
-  bounds = made.cut;
-  scroll_x = ok.scroll_x;
-  scroll_y = ok.scroll_y;
-  sizes = sizes_by d k (is_super d.kind) refl ok made;
-  scrolled = scrolled_by d k (is_super d.kind) refl ok made;
+  place = record {
+    bounds = made.cut;
+    scroll_x = ok.place.scroll_x;
+    scroll_y = ok.place.scroll_y;
+    sizes = sizes_by d k (is_super d.kind) refl ok made;
+    scrolled = scrolled_by d k (is_super d.kind) refl ok made;
+  };
   mode = ok.mode;
-  shown = made.shown;
-  solid = made.solid;
-  rest = rest_changed d.kind _ _ _ d (hidden_of k.bounds k.parts.visible) ok.rest made.hidden;
-  buffers = made_buffers d k ok made;
-  inner = inner_by d k (is_super d.kind) refl ok made;
-  damaged = damaged_by d k (is_super d.kind) refl ok made;
-  frameless = ok.frameless;
-  frame = made.size.frame;
+  buffers = record {
+    shown = made.shown;
+    solid = made.solid;
+    rest = rest_changed d.kind _ _ _ d (hidden_of k.bounds k.parts.visible) ok.buffers.rest made.hidden;
+    sized = made_buffers d k ok made;
+  };
+  damage = record { inner = inner_by d k (is_super d.kind) refl ok made; kept = damaged_by d k (is_super d.kind) refl ok made };
+  frame = record { frameless = ok.frame.frameless; room = made.size.frame };
 }
 
 -- where a pixel lies in its buffer_rectangle, one axis at a time

@@ -183,8 +183,8 @@ former_pen d n i j ok parts number left low =
     let has : has_pixel r (r.min_x +ℤ pos i) (r.min_y +ℤ pos j) ≡ true = and_from _ _ (axis_has r.min_x r.max_x i ordered.columns left) (axis_has r.min_y r.max_y j ordered.rows low) in
     let P : Rectangle → Type 0 = λ q. has_pixel q (r.min_x +ℤ pos i) (r.min_y +ℤ pos j) ≡ true in
     let inside = and_parts _ _ (divided_inside d.bounds d.parts.visible hidden n (r.min_x +ℤ pos i) (r.min_y +ℤ pos j) parts.divided number.inside (subst P number.all has)) in
-    let column : OnAxis r.min_x d.bounds.min_x l.scroll_x i l.width = on_axis r.min_x d.bounds.min_x d.bounds.max_x l.scroll_x i l.width inside.0 ok.scrolled.right in
-    let line : OnAxis r.min_y d.bounds.min_y l.scroll_y j l.height = on_axis r.min_y d.bounds.min_y d.bounds.max_y l.scroll_y j l.height inside.1 ok.scrolled.lower in
+    let column : OnAxis r.min_x d.bounds.min_x l.scroll_x i l.width = on_axis r.min_x d.bounds.min_x d.bounds.max_x l.scroll_x i l.width inside.0 ok.place.scrolled.right in
+    let line : OnAxis r.min_y d.bounds.min_y l.scroll_y j l.height = on_axis r.min_y d.bounds.min_y d.bounds.max_y l.scroll_y j l.height inside.1 ok.place.scrolled.lower in
     let here : has_pixel r (across l column.x) (down l line.x) ≡ true = rw (column.at, line.at) has in
     let found : buffer_at l column.x line.x ≡ Some n =
     found_at l column.x line.x n column.below line.below number.there here

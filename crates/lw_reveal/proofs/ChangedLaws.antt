@@ -33,7 +33,7 @@ former_many : (d : LiveDraft) → IsLiveDraft d
 former_many d ok =
     let hidden = hidden_of d.bounds d.parts.visible in
     let long = length-append d.parts.visible (kept_hidden d.kind hidden) in
-    let rest = rest_count d.kind hidden (length d.covered.items) d.superbits ok.rest in
+    let rest = rest_count d.kind hidden (length d.covered.items) d.superbits ok.buffers.rest in
     omega (arith, planes_many d, planes_shown d ok)
 
 pub handed_many : (d : LiveDraft) (k : Change) → IsLiveDraft d → IsChange (live_view d) k

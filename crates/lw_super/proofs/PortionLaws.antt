@@ -108,7 +108,7 @@ scrolled_buffers : (d v : LiveDraft) (x y : ℤ) → d.kind ≡ SuperBitmap → 
 scrolled_buffers d v x y super ok may =
     let e = scrolled_to d v x y in
     let bits = (live_view d).layer.bits in
-    let none = nil_from_length d.covered.items (super_rest d.kind _ _ _ super ok.rest).0 in
+    let none = nil_from_length d.covered.items (super_rest d.kind _ _ _ super ok.buffers.rest).0 in
     let buffers : buffers_of e ≡ visible_planes v ++ (bits ∷ []) = ap (λ q. visible_planes v ++ (q ++ (bits ∷ []))) none in
     let P : List Rectangle → Type 0 = λ rs. AreBuffers d.depth rs (buffers_of e) d.bounds in
     let Q : List Bitmap → Type 0 = λ bs. AreBuffers d.depth (d.parts.visible ++ (whole_of (layout e) ∷ [])) bs d.bounds in
@@ -124,24 +124,24 @@ scrolled_buffers d v x y super ok may =
 pub scrolled_sound : (d v : LiveDraft) (x y : ℤ) → d.kind ≡ SuperBitmap → IsLiveDraft d → MayScrollTo d v x y
     → IsLiveDraft (scrolled_to d v x y)
 scrolled_sound d v x y super ok may = record {
-  bounds = ok.bounds;
-  scroll_x = may.left;
-  scroll_y = may.upper;
-  sizes = ok.sizes;
-  scrolled = record {
-    left = λ plain. absurd (cc (sym plain ∙ ap is_super super));
-    upper = λ plain. absurd (cc (sym plain ∙ ap is_super super));
-    right = may.right;
-    lower = may.lower;
+  place = record {
+    bounds = ok.place.bounds;
+    scroll_x = may.left;
+    scroll_y = may.upper;
+    sizes = ok.place.sizes;
+    scrolled = record {
+      left = λ plain. absurd (cc (sym plain ∙ ap is_super super));
+      upper = λ plain. absurd (cc (sym plain ∙ ap is_super super));
+      right = may.right;
+      lower = may.lower;
+    };
   };
   mode = ok.mode;
-  shown = may.rects;
-  solid = may.solid;
-  rest = rest_still d.kind _ _ d.superbits _ super ok.rest;
-  buffers = scrolled_buffers d v x y super ok may;
-  inner = ok.inner;
-  damaged = λ i j has. sym (holds_same (λ p q. keeps (live_view d) p q) (λ p q. keeps (live_view (scrolled_to d v x y)) p q) i j (λ p q. keeps_still d v x y p q super)) ∙ ok.damaged i j has;
-  frameless = ok.frameless;
+  buffers = record { shown = may.rects; solid = may.solid; rest = rest_still d.kind _ _ d.superbits _ super ok.buffers.rest; sized = scrolled_buffers d v x y super ok may };
+  damage = record {
+    inner = ok.damage.inner;
+    kept = λ i j has. sym (holds_same (λ p q. keeps (live_view d) p q) (λ p q. keeps (live_view (scrolled_to d v x y)) p q) i j (λ p q. keeps_still d v x y p q super)) ∙ ok.damage.kept i j has;
+  };
   frame = ok.frame;
 }
 
@@ -183,17 +183,17 @@ written_back d = record d { superbits = Some (live_view d).layer.bits }
 
 back_may : (d : LiveDraft) → IsLiveDraft d → MayScrollTo d d d.scroll_x d.scroll_y
 back_may d ok = record {
-  left = ok.scroll_x;
-  upper = ok.scroll_y;
-  right = ok.scrolled.right;
-  lower = ok.scrolled.lower;
+  left = ok.place.scroll_x;
+  upper = ok.place.scroll_y;
+  right = ok.place.scrolled.right;
+  lower = ok.place.scrolled.lower;
   many = planes_shown d ok;
-  rects = ok.shown;
-  solid = ok.solid;
+  rects = ok.buffers.shown;
+  solid = ok.buffers.solid;
   each =
       λ n below.
       let long = length-append d.parts.visible (rest_pieces d) in
-      buffer_moved d.depth d.depth _ _ _ _ refl (get_or_append_left d.parts.visible (rest_pieces d) d.bounds n below) (shown_buffer d n (omega (arith, planes_many d, planes_shown d ok))) (ok.buffers.each n (omega arith));
+      buffer_moved d.depth d.depth _ _ _ _ refl (get_or_append_left d.parts.visible (rest_pieces d) d.bounds n below) (shown_buffer d n (omega (arith, planes_many d, planes_shown d ok))) (ok.buffers.sized.each n (omega arith));
 }
 
 -- the rectangle isn't left of the bitmap, nor above it
@@ -338,14 +338,14 @@ moved_by_portions d v hidden x y super ok ordered canonical divided fits strips_
     let still = moved_may d x y ok ordered parts in
     let shown : AreShown bits left top visible (visible_planes d) = are_shown (scrolled_to d d x y) bits hidden kind (scrolled_sound d d x y kind ok still) canonical divided in
     let is : visible_planes v ≡ portions bits left top visible =
-    ap (λ ss. planes_of ss) strips_are ∙ (refilled_planes bits left top d.strips.items ∙ ap (λ rs. portions bits left top rs) ok.shown) in
+    ap (λ ss. planes_of ss) strips_are ∙ (refilled_planes bits left top d.strips.items ∙ ap (λ rs. portions bits left top rs) ok.buffers.shown) in
     let may : MayScrollTo d v x y = record {
       left = still.left;
       upper = still.upper;
       right = still.right;
       lower = still.lower;
       many = ap (λ bs. length bs) is ∙ length-map visible (λ r. portion bits left top r);
-      rects = ap (λ ss. rects_of ss) strips_are ∙ (refilled_rects bits left top d.strips.items ∙ ok.shown);
+      rects = ap (λ ss. rects_of ss) strips_are ∙ (refilled_rects bits left top d.strips.items ∙ ok.buffers.shown);
       solid = let P : List StripView → Type 0 = λ ss. All (λ (s : StripView). s.solid ≡ true) ss in subst P (sym strips_are) (refilled_solid bits left top d.strips.items);
       each =
           λ n below.
@@ -383,13 +383,13 @@ pub moved_x_told : (d : LiveDraft) (x y : ℤ) → IsLiveDraft d → IsOrdered d
     → portion_fits x y (layout d).width (layout d).height d.bounds ≡ true → IsNear x
 moved_x_told d x y ok ordered fits =
     let parts = fits_parts _ _ _ _ _ fits in
-    record { low = parts.left; high = let last = parts.right in let small = ok.sizes.columns.1 in let some = ordered.columns in omega (arith, ints) }
+    record { low = parts.left; high = let last = parts.right in let small = ok.place.sizes.columns.1 in let some = ordered.columns in omega (arith, ints) }
 
 pub moved_y_told : (d : LiveDraft) (x y : ℤ) → IsLiveDraft d → IsOrdered d.bounds
     → portion_fits x y (layout d).width (layout d).height d.bounds ≡ true → IsNear y
 moved_y_told d x y ok ordered fits =
     let parts = fits_parts _ _ _ _ _ fits in
-    record { low = parts.upper; high = let last = parts.lower in let small = ok.sizes.rows.1 in let some = ordered.rows in omega (arith, ints) }
+    record { low = parts.upper; high = let last = parts.lower in let small = ok.place.sizes.rows.1 in let some = ordered.rows in omega (arith, ints) }
 
 -- the draft once its portion was moved and its visible rectangles' buffers were filled anew
 pub moved_live : (d w n : LiveDraft) (hidden : List Rectangle) (dx dy : ℤ) → w ≡ scrolled_by d dx dy
@@ -416,8 +416,8 @@ moved_scroll was by low moved =
 pub scrolled_layer : (d : LiveDraft) (dx dy : ℤ) → IsLiveDraft d → pos 0 ≤ℤ (d.scroll_x +ℤ dx) → pos 0 ≤ℤ (d.scroll_y +ℤ dy)
     → scrolled_view (live_view d) (d.scroll_x +ℤ dx) (d.scroll_y +ℤ dy) ≡ with_layer (λ l. scroll_layer dx dy l) (live_view d)
 scrolled_layer d dx dy ok low upper =
-    ap (λ n. with_layer (λ l. record l { scroll_x = n; scroll_y = unsigned_abs (d.scroll_y +ℤ dy) }) (live_view d)) (moved_scroll d.scroll_x dx ok.scroll_x low)
-    ∙ ap (λ n. with_layer (λ l. record l { scroll_x = natural (pos (unsigned_abs d.scroll_x) +ℤ dx); scroll_y = n }) (live_view d)) (moved_scroll d.scroll_y dy ok.scroll_y upper)
+    ap (λ n. with_layer (λ l. record l { scroll_x = n; scroll_y = unsigned_abs (d.scroll_y +ℤ dy) }) (live_view d)) (moved_scroll d.scroll_x dx ok.place.scroll_x low)
+    ∙ ap (λ n. with_layer (λ l. record l { scroll_x = natural (pos (unsigned_abs d.scroll_x) +ℤ dx); scroll_y = n }) (live_view d)) (moved_scroll d.scroll_y dy ok.place.scroll_y upper)
 
 -- whether an axis fits, where it begins in the bitmap
 pub axis_told : (start extent : ℤ) (count : ℕ) (a b : ℤ) → pos 0 ≤ℤ start → a ≡ start +ℤ extent → b ≡ pos count

@@ -62,7 +62,7 @@ with_own d own = record d { superbits = Some own }
 pub super_buffers : (d : LiveDraft) (own : Bitmap) → d.kind ≡ SuperBitmap → IsLiveDraft (with_own d own)
     → buffers_of (with_own d own) ≡ visible_planes d ++ (own ∷ [])
 super_buffers d own super ok =
-    let none = nil_from_length d.covered.items (super_rest d.kind _ _ _ super ok.rest).0 in
+    let none = nil_from_length d.covered.items (super_rest d.kind _ _ _ super ok.buffers.rest).0 in
     ap (λ q. visible_planes d ++ (q ++ (own ∷ []))) none
 
 pub super_pieces : (d : LiveDraft) (own : Bitmap) → d.kind ≡ SuperBitmap
@@ -80,7 +80,7 @@ own_depth d own super ok =
     let long : length (buffered (layout q)) ≡ n + 1 = ap (λ rs. length rs) (super_pieces d own super) ∙ length-append d.parts.visible (whole_of (layout q) ∷ []) in
     let P : Rectangle → Type 0 = λ r. IsBuffer d.depth r own in
     let Q : Bitmap → Type 0 = λ b. IsBuffer d.depth (buffer_rectangle (layout q) n) b in
-    subst P whole (subst Q bits (ok.buffers.each n (omega arith)))
+    subst P whole (subst Q bits (ok.buffers.sized.each n (omega arith)))
 
 -- the pens of a list, and where it has none that of one more rectangle
 pen_in_last : (rs : List Rectangle) (bs : List Bitmap) (r : Rectangle) (b : Bitmap) (x y : ℤ) → length bs ≡ length rs
@@ -144,7 +144,7 @@ pixel_pen d own x y (Some n) super ok left low is =
     ∙ (pen_in_last d.parts.visible (visible_planes d) (whole_of l) own u v (planes_shown (with_own d own) ok) (whole_has l x y left low)
     ∙ (ap (λ i. if covers d.parts.visible u v then pen_in d.parts.visible (visible_planes d) u v else pen_at own i (natural (v -ℤ (whole_of l).min_y))) (natural_step d.bounds.min_x l.scroll_x x)
     ∙ (ap (λ j. if covers d.parts.visible u v then pen_in d.parts.visible (visible_planes d) u v else pen_at own x j) (natural_step d.bounds.min_y l.scroll_y y)
-    ∙ (ap (λ a. F a v) (place_is d.bounds.min_x d.scroll_x x ok.scroll_x) ∙ ap (λ b. F (left_of d +ℤ pos x) b) (place_is d.bounds.min_y d.scroll_y y ok.scroll_y)))))))
+    ∙ (ap (λ a. F a v) (place_is d.bounds.min_x d.scroll_x x ok.place.scroll_x) ∙ ap (λ b. F (left_of d +ℤ pos x) b) (place_is d.bounds.min_y d.scroll_y y ok.place.scroll_y)))))))
 
 -- the bits of a super-bitmap layer
 pub super_bits : (d : LiveDraft) (own : Bitmap) → d.kind ≡ SuperBitmap → IsLiveDraft (with_own d own)
@@ -180,15 +180,15 @@ shown_each d own n r b super ok canonical inside below =
     let long = length-append l.visible (rest_of l) in
     record {
       ordered = ordered;
-      left_edge = edge_low d.bounds.min_x d.scroll_x s.min_x ok.scroll_x (within_low _ _ _ first.0);
-      top_edge = edge_low d.bounds.min_y d.scroll_y s.min_y ok.scroll_y (within_low _ _ _ first.1);
-      right_edge = edge_high d.bounds.min_x d.bounds.max_x d.scroll_x s.max_x own.width ok.scroll_x ok.scrolled.right (within_high _ _ _ last.0) (within_low _ _ _ last.0);
-      bottom_edge = edge_high d.bounds.min_y d.bounds.max_y d.scroll_y s.max_y own.height ok.scroll_y ok.scrolled.lower (within_high _ _ _ last.1) (within_low _ _ _ last.1);
+      left_edge = edge_low d.bounds.min_x d.scroll_x s.min_x ok.place.scroll_x (within_low _ _ _ first.0);
+      top_edge = edge_low d.bounds.min_y d.scroll_y s.min_y ok.place.scroll_y (within_low _ _ _ first.1);
+      right_edge = edge_high d.bounds.min_x d.bounds.max_x d.scroll_x s.max_x own.width ok.place.scroll_x ok.place.scrolled.right (within_high _ _ _ last.0) (within_low _ _ _ last.0);
+      bottom_edge = edge_high d.bounds.min_y d.bounds.max_y d.scroll_y s.max_y own.height ok.place.scroll_y ok.place.scrolled.lower (within_high _ _ _ last.1) (within_low _ _ _ last.1);
       buffer =
           buffer_moved d.depth own.depth _ _ _ _ (sym (own_depth d own super ok).planes)
           (get_or_append_left l.visible (rest_of l) l.bounds n below ∙ get_or_default l.visible n l.bounds r below)
           (shown_buffer q n (omega (arith, planes_many q, planes_shown q ok)) ∙ get_or_default (visible_planes d) n no_bitmap b (omega (arith, planes_shown q ok)))
-          (ok.buffers.each n (omega arith));
+          (ok.buffers.sized.each n (omega arith));
     }
 
 pub are_shown : (d : LiveDraft) (own : Bitmap) (hidden : List Rectangle) → d.kind ≡ SuperBitmap → IsLiveDraft (with_own d own)
@@ -196,15 +196,15 @@ pub are_shown : (d : LiveDraft) (own : Bitmap) (hidden : List Rectangle) → d.k
     → AreShown own (left_of d) (top_of d) d.parts.visible (visible_planes d)
 are_shown d own hidden super ok canonical divided =
     let P : Rectangle → Type 0 = λ r. LieIn r d.parts.visible in
-    let inside : LieIn d.bounds d.parts.visible = subst P ok.bounds (visible_inside d.parts.bounds d.parts.visible hidden divided) in
+    let inside : LieIn d.bounds d.parts.visible = subst P ok.place.bounds (visible_inside d.parts.bounds d.parts.visible hidden divided) in
     record { many = planes_shown (with_own d own) ok; each = λ n r b below. shown_each d own n r b super ok canonical inside below }
 
 -- a scroll lies in the bits
 pub scroll_x_told : (d : LiveDraft) → IsLiveDraft d → (pos 0 ≤ℤ d.scroll_x) × (d.scroll_x ≤ℤ pos 2048)
-scroll_x_told d ok = (ok.scroll_x, let fits = ok.scrolled.right in let small = ok.sizes.columns.1 in omega (arith, ints))
+scroll_x_told d ok = (ok.place.scroll_x, let fits = ok.place.scrolled.right in let small = ok.place.sizes.columns.1 in omega (arith, ints))
 
 pub scroll_y_told : (d : LiveDraft) → IsLiveDraft d → (pos 0 ≤ℤ d.scroll_y) × (d.scroll_y ≤ℤ pos 2048)
-scroll_y_told d ok = (ok.scroll_y, let fits = ok.scrolled.lower in let small = ok.sizes.rows.1 in omega (arith, ints))
+scroll_y_told d ok = (ok.place.scroll_y, let fits = ok.place.scrolled.lower in let small = ok.place.sizes.rows.1 in omega (arith, ints))
 
 -- where the bits begin, as the code has it
 corner_told : (edge got scroll result : ℤ) → FitsSigned w16 got → got ≡ edge → (pos 0 ≤ℤ scroll) × (scroll ≤ℤ pos 2048)
@@ -233,11 +233,11 @@ strips_shown d own hidden strips left top super is ok canonical divided is_left 
     rw (is_left, is_top, is_strips)
     (λ k s inside.
     let below : k < length d.parts.visible = omega (arith, planes_many d, planes_shown d ok) in
-    let rect : get_or d.parts.visible k s.rect ≡ (get_or d.strips.items k s).rect = sym (ap (λ rs. get_or rs k s.rect) ok.shown) ∙ get_or-map (λ (q : StripView). q.rect) d.strips.items k s s.rect inside in
+    let rect : get_or d.parts.visible k s.rect ≡ (get_or d.strips.items k s).rect = sym (ap (λ rs. get_or rs k s.rect) ok.buffers.shown) ∙ get_or-map (λ (q : StripView). q.rect) d.strips.items k s s.rect inside in
     let planes : get_or (visible_planes d) k s.planes ≡ (get_or d.strips.items k s).planes = get_or-map (λ (q : StripView). q.planes) d.strips.items k s s.planes inside in
     let P : Rectangle → Type 0 = λ r. IsShown own (left_of d) (top_of d) r (get_or (visible_planes d) k s.planes) in
     let Q : Bitmap → Type 0 = λ b. IsShown own (left_of d) (top_of d) (get_or d.strips.items k s).rect b in
-    (ok.solid k s inside, subst Q planes (subst P rect (all.each k s.rect s.planes below))))
+    (ok.buffers.solid k s inside, subst Q planes (subst P rect (all.each k s.rect s.planes below))))
 
 -- its strips have its planes
 pub strips_deep : (d : LiveDraft) (own : Bitmap) (strips : List StripView) → is_super d.kind ≡ true → d.superbits ≡ Some own → IsLiveDraft d → strips ≡ d.strips.items
@@ -247,7 +247,7 @@ strips_deep d own strips super is ok is_strips =
     rw is_strips (shown_deep d own.depth ok deep)
 
 pub strips_all_solid : (d : LiveDraft) (strips : List StripView) → IsLiveDraft d → strips ≡ d.strips.items → All (λ (s : StripView). s.solid ≡ true) strips
-strips_all_solid d strips ok is = rw is ok.solid
+strips_all_solid d strips ok is = rw is ok.buffers.solid
 
 -- what writing back gives, where the places and the strips are told by equations, as the code has them
 pub write_gives : (d : LiveDraft) (own new : Bitmap) (strips : List StripView) (left top : ℤ)
@@ -259,6 +259,6 @@ write_gives d own new strips left top super is ok is_left is_top is_strips new_i
     let bits : P d.superbits = subst P (sym is) (super_bits d own (super_is d.kind super) (own_told d own is ok)) in
     new_is
     ∙ (ap (λ ss. with_buffers (rects_of ss) (planes_of ss) left top own) is_strips
-    ∙ (ap (λ rs. with_buffers rs (visible_planes d) left top own) ok.shown
+    ∙ (ap (λ rs. with_buffers rs (visible_planes d) left top own) ok.buffers.shown
     ∙ (ap (λ z. with_buffers d.parts.visible (visible_planes d) z top own) is_left
     ∙ (ap (λ z. with_buffers d.parts.visible (visible_planes d) (left_of d) z own) is_top ∙ sym bits))))

@@ -24,14 +24,14 @@ pub hand_all-requires-clause-solid : goal.hand_all-requires-clause-solid
 hand_all-requires-clause-solid c =
     let is : c.write_whole.new.live ≡ record c.args.live { superbits = own_whole c.args.live.kind c.args.live } = c.write_whole.ensures in
     let P : LiveDraft → Type 0 = λ q. All (λ (s : StripView). s.solid ≡ true) q.strips.items in
-    subst P (sym is) c.requires.sound.solid
+    subst P (sym is) c.requires.sound.buffers.solid
 
 pub hand_all-requires-clause-places : goal.hand_all-requires-clause-places
 hand_all-requires-clause-places c =
     let d : LiveDraft = c.args.live in
     let k : Change = c.args.change in
     let is : c.write_whole.new.live ≡ record d { superbits = own_whole d.kind d } = c.write_whole.ensures in
-    let was : AreParts d.bounds d.parts.visible = parts_told d.parts d.bounds c.hidden.result.now c.requires.sound.bounds c.hidden.ensures.value c.min_x.ensures.ordered c.visible.ensures.canonical c.hidden.ensures.divided in
+    let was : AreParts d.bounds d.parts.visible = parts_told d.parts d.bounds c.hidden.result.now c.requires.sound.place.bounds c.hidden.ensures.value c.min_x.ensures.ordered c.visible.ensures.canonical c.hidden.ensures.divided in
     let H : List (Option ℕ) → Type 0 = λ q. HavePlaces q (former_planes c.write_whole.new.live) (rects_of c.deref_mut.result.now) (length c.deref_mut-2.result.now) in
     let D : LiveDraft → Type 0 = λ q. HavePlaces k.handed.items (former_planes q) (rects_of c.deref_mut.result.now) (length c.deref_mut-2.result.now) in
     let S : List StripView → Type 0 = λ q. HavePlaces k.handed.items (former_planes d) (rects_of q) (length c.deref_mut-2.result.now) in
@@ -48,7 +48,7 @@ made c =
     let first : (after c).strips.items ≡ c.hand_all.new.strips = with_items_is k.strips c.hand_all.new.strips (search (rules, places)) in
     let second : (after c).covered.items ≡ c.hand_all.new.covered = with_items_is k.covered c.hand_all.new.covered (search (rules, places)) in
     let is : c.write_whole.new.live ≡ record d { superbits = own_whole d.kind d } = c.write_whole.ensures in
-    let was : AreParts d.bounds d.parts.visible = parts_told d.parts d.bounds c.hidden.result.now c.requires.sound.bounds c.hidden.ensures.value c.min_x.ensures.ordered c.visible.ensures.canonical c.hidden.ensures.divided in
+    let was : AreParts d.bounds d.parts.visible = parts_told d.parts d.bounds c.hidden.result.now c.requires.sound.place.bounds c.hidden.ensures.value c.min_x.ensures.ordered c.visible.ensures.canonical c.hidden.ensures.divided in
     let now : AreParts k.bounds k.parts.visible = parts_told k.parts k.bounds c.hidden-2.result.now c.requires.change.cut c.hidden-2.ensures.value c.min_x-2.ensures.ordered c.visible-2.ensures.canonical c.hidden-2.ensures.divided in
     let over : new_ones (after c) ≡ handed_over k.handed.items (former_planes d) (new_ones k) =
     ap (λ q. held_in q (after c).covered.items) first ∙ (ap (λ q. held_in c.hand_all.new.strips q) second ∙

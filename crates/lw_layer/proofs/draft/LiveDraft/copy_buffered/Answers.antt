@@ -13,7 +13,7 @@ use Rattle.lw_layer.proofs.draft.LiveDraft.copy_buffered.Goals as goal
 pub copy_strips-requires-clause-solid : goal.copy_strips-requires-clause-solid
 copy_strips-requires-clause-solid c =
     let P : List StripView → Type 0 = λ ss. All (λ (s : StripView). s.solid ≡ true) ss in
-    subst P (sym c.deref.ensures.value) c.requires.sound.solid
+    subst P (sym c.deref.ensures.value) c.requires.sound.buffers.solid
 
 pub copy_strips-requires-clause-plane : goal.copy_strips-requires-clause-plane
 copy_strips-requires-clause-plane c =
@@ -31,7 +31,7 @@ returns c =
     let across : to_z w32 (of_z w32 c.across_at-column.result) ≡ across_at l c.args.x = to_z-of_z w32 c.across_at-column.result fits_place ∙ (c.across_at-column.ensures ∙ ap (λ z. across_at l z) x) in
     let down_is : to_z w32 (of_z w32 c.down-line.result) ≡ down l c.args.y = to_z-of_z w32 c.down-line.result fits_row ∙ c.down-line.ensures in
     let P : ℤ → Type 0 = λ z. HasPlaces (rest_of l) (rest_buffers d) c.args.plane (across_at l z) (down l c.args.y) n c.copy_rest.new.bits c.copy_rest.new.kept in
-    let shown = c.requires.sound.shown in
+    let shown = c.requires.sound.buffers.shown in
     places_over d.parts.visible (rest_of l) (visible_planes d) (rest_buffers d) c.args.plane (across_at l c.args.x) (down l c.args.y) n c.copy_rest.new.bits c.copy_rest.new.kept c.copy_strips.new.bits c.copy_strips.new.kept
     (planes_shown d c.requires.sound) (subst P x c.copy_rest.ensures)
     (λ i below.

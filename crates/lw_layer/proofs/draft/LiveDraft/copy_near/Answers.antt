@@ -24,7 +24,7 @@ returns c =
     let d = c.args.self.now in
     let l = layout d in
     let row : ℕ = c.in-Some.row in
-    let divided : AreDivided d.bounds d.parts.visible (hidden_of d.bounds d.parts.visible) = rw (sym c.requires.sound.bounds) (rw c.hidden.ensures.value at c.hidden.ensures.divided) in
+    let divided : AreDivided d.bounds d.parts.visible (hidden_of d.bounds d.parts.visible) = rw (sym c.requires.sound.place.bounds) (rw c.hidden.ensures.value at c.hidden.ensures.divided) in
     let P : ℤ → Type 0 = λ z. HasPlaces (buffered l) (buffers_of d) c.args.plane (across_at l z) (down l row) (8 * length c.args.bits.now) c.copy_buffered.new.bits c.copy_buffered.new.kept in
     row_of_places d c.args.plane c.args.x c.args.y row (8 * length c.args.bits.now) c.copy_buffered.new.bits c.copy_buffered.new.kept
     (sym (to_z-of_z w32 c.args.y c.ranges.y) ∙ c.in-Some.ensures.0) c.requires.sound c.min_x.ensures.ordered divided

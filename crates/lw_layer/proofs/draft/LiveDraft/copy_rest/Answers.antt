@@ -14,7 +14,7 @@ use Rattle.lw_layer.proofs.draft.LiveDraft.copy_rest.Goals as goal
 pub copy_row-requires-clause-buffers : goal.copy_row-requires-clause-buffers
 copy_row-requires-clause-buffers c =
     let d = c.args.self.now in
-    let hidden : c.hidden.result.now ≡ hidden_of d.bounds d.parts.visible = c.hidden.ensures.value ∙ ap (λ r. hidden_of r d.parts.visible) c.requires.sound.bounds in
+    let hidden : c.hidden.result.now ≡ hidden_of d.bounds d.parts.visible = c.hidden.ensures.value ∙ ap (λ r. hidden_of r d.parts.visible) c.requires.sound.place.bounds in
     let P : List Rectangle → Type 0 = λ rs. AreBuffers rs c.deref.result.now in
     let Q : List Bitmap → Type 0 = λ bs. AreBuffers (hidden_of d.bounds d.parts.visible) bs in
     subst P (sym hidden) (subst Q (sym c.deref.ensures.value) (covered_buffers d c.in-Smart.is c.requires.sound))
@@ -34,7 +34,7 @@ returns-in-Smart c =
     let l = layout d in
     let fits_place : FitsSigned w32 c.across_at.result = search rules in
     let fits_row : FitsSigned w32 c.down.result = search rules in
-    let hidden : c.hidden.result.now ≡ hidden_of d.bounds d.parts.visible = c.hidden.ensures.value ∙ ap (λ r. hidden_of r d.parts.visible) c.requires.sound.bounds in
+    let hidden : c.hidden.result.now ≡ hidden_of d.bounds d.parts.visible = c.hidden.ensures.value ∙ ap (λ r. hidden_of r d.parts.visible) c.requires.sound.place.bounds in
     let across : to_z w32 (of_z w32 c.across_at.result) ≡ across_at l c.args.x = to_z-of_z w32 c.across_at.result fits_place ∙ (c.across_at.ensures ∙ ap (λ z. across_at l z) (to_z-of_z w32 c.args.x c.ranges.x)) in
     let down_is : to_z w32 (of_z w32 c.down.result) ≡ down l c.args.y = to_z-of_z w32 c.down.result fits_row ∙ c.down.ensures in
     smart_places d c.args.plane (across_at l c.args.x) (down l c.args.y) (8 * length c.args.bits.now) c.copy_row.new.bits c.copy_row.new.kept c.in-Smart.is c.requires.sound

@@ -9,7 +9,7 @@ use Rattle.lw_layer.proofs.draft.LiveDraft.kept_run_at.Goals as goal
 pub returns-in_default : goal.returns-in_default
 returns-in_default c =
     let d = c.args.self.now in
-    let divided : AreDivided d.bounds d.parts.visible (hidden_of d.bounds d.parts.visible) = rw (sym c.requires.sound.bounds) (rw c.hidden.ensures.value at c.hidden.ensures.divided) in
+    let divided : AreDivided d.bounds d.parts.visible (hidden_of d.bounds d.parts.visible) = rw (sym c.requires.sound.place.bounds) (rw c.hidden.ensures.value at c.hidden.ensures.divided) in
     let missing : buffer_at (layout d) c.args.x c.args.y ≡ None = sym c.buffer_at.ensures ∙ c.in_default.is in
     keeps_missing d c.args.x c.args.y d.kind refl c.requires.sound c.min_x.ensures.ordered divided c.requires.column c.requires.row missing
 

@@ -24,6 +24,6 @@ returns c =
     let y : to_z w64 (of_z w64 (to_z w64 (of_z w64 c.start-2.result) -ℤ to_z w64 (of_z w64 c.args.top))) ≡ c.start-2.result -ℤ c.args.top =
     places_apart c.start-2.result c.args.top c.start-2.ensures.near c.requires.top in
     own_laid d own c.args.left c.args.top _ _ c.args.to.now c.lay_bitmap.new.to c.requires.own c.in-Some.is c.requires.sound c.depth.ensures.planes.bitmap
-    (x ∙ corner_is d.bounds.min_x c.start.result c.args.left d.scroll_x c.requires.sound.scroll_x (rw (edge_x, to_z-of_z w32 d.scroll_x scroll_x) at c.start.ensures.value))
-    (y ∙ corner_is d.bounds.min_y c.start-2.result c.args.top d.scroll_y c.requires.sound.scroll_y (rw (edge_y, to_z-of_z w32 d.scroll_y scroll_y) at c.start-2.ensures.value))
+    (x ∙ corner_is d.bounds.min_x c.start.result c.args.left d.scroll_x c.requires.sound.place.scroll_x (rw (edge_x, to_z-of_z w32 d.scroll_x scroll_x) at c.start.ensures.value))
+    (y ∙ corner_is d.bounds.min_y c.start-2.result c.args.top d.scroll_y c.requires.sound.place.scroll_y (rw (edge_y, to_z-of_z w32 d.scroll_y scroll_y) at c.start-2.ensures.value))
     c.lay_bitmap.ensures

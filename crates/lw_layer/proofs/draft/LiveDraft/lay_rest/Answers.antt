@@ -12,7 +12,7 @@ use Rattle.lw_layer.proofs.draft.LiveDraft.lay_rest.Goals as goal
 pub lay_buffers-requires-clause-buffers : goal.lay_buffers-requires-clause-buffers
 lay_buffers-requires-clause-buffers c =
     let d = c.args.self.now in
-    let hidden : c.hidden.result.now ≡ hidden_of d.bounds d.parts.visible = c.hidden.ensures.value ∙ ap (λ r. hidden_of r d.parts.visible) c.requires.sound.bounds in
+    let hidden : c.hidden.result.now ≡ hidden_of d.bounds d.parts.visible = c.hidden.ensures.value ∙ ap (λ r. hidden_of r d.parts.visible) c.requires.sound.place.bounds in
     let P : List Rectangle → Type 0 = λ rs. AreBuffers rs c.deref.result.now in
     let Q : List Bitmap → Type 0 = λ bs. AreBuffers (hidden_of d.bounds d.parts.visible) bs in
     subst P (sym hidden) (subst Q (sym c.deref.ensures.value) (covered_buffers d c.in-Smart.is c.requires.sound))
@@ -28,7 +28,7 @@ returns-in-Simple c = simple_laid c.args.self.now c.args.left c.args.top c.args.
 pub returns-in-Smart : goal.returns-in-Smart
 returns-in-Smart c =
     let d = c.args.self.now in
-    let hidden : c.hidden.result.now ≡ hidden_of d.bounds d.parts.visible = c.hidden.ensures.value ∙ ap (λ r. hidden_of r d.parts.visible) c.requires.sound.bounds in
+    let hidden : c.hidden.result.now ≡ hidden_of d.bounds d.parts.visible = c.hidden.ensures.value ∙ ap (λ r. hidden_of r d.parts.visible) c.requires.sound.place.bounds in
     let left = to_z-of_z w64 c.args.left c.ranges.left in
     let top = to_z-of_z w64 c.args.top c.ranges.top in
     smart_laid d c.args.left c.args.top c.args.to.now c.lay_buffers.new.to c.in-Smart.is c.requires.sound (rw (left, top, hidden, c.deref.ensures.value) at c.lay_buffers.ensures)

@@ -28,7 +28,7 @@ rows_mut-requires-clause-solid c =
     let d = c.args.self.now in
     let P : StripView → Type 0 = λ q. q.solid ≡ true in
     let inside : c.args.buffer < length d.strips.items = search rules in
-    subst P (sym c.index_mut-strip.ensures.value) (All-get_or P d.strips.items c.args.buffer c.index_mut-strip.result.now inside c.requires.sound.solid)
+    subst P (sym c.index_mut-strip.ensures.value) (All-get_or P d.strips.items c.args.buffer c.index_mut-strip.result.now inside c.requires.sound.buffers.solid)
 
 pub rows_mut-requires-clause-plane : goal.rows_mut-requires-clause-plane
 rows_mut-requires-clause-plane c =

@@ -31,6 +31,6 @@ returns-in-Some-next_in c =
     let from : IsFrom c.args.x c.from_place-first.result = rw (to_z-of_z w32 c.args.x c.ranges.x) at c.from_place-first.ensures in
     let behind : IsBehind c.args.last c.behind_place.result = rw (to_z-of_z w32 c.args.last c.ranges.last) at c.behind_place.ensures in
     let found : M (min c.behind_place.result (layout d).width) = subst M same c.in-Some-next_in.ensures in
-    let small : c.in-Some-next_in.column < 2 ^ 31 = omega (arith, found.ends, c.requires.sizes.columns.1) in
+    let small : c.in-Some-next_in.column < 2 ^ 31 = omega (arith, found.ends, c.requires.place.sizes.columns.1) in
     let cast : to_z w32 c.in-Some-next_in.column ≡ pos c.in-Some-next_in.column = omega (arith, ints) in
     rw (row, cast) (next_some d c.args.x c.args.last c.in-Some.row c.from_place-first.result c.behind_place.result c.in-Some-next_in.column from behind found)

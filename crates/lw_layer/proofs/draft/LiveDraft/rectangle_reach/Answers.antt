@@ -20,5 +20,5 @@ returns c =
     let l = layout d in
     let fits_place : FitsSigned w32 c.across-place.result = search rules in
     let fits_right : FitsSigned w32 c.buffer_edges-right.result.right = search rules in
-    let divided : AreDivided d.bounds d.parts.visible (hidden_of d.bounds d.parts.visible) = rw (sym c.requires.sound.bounds) (rw c.hidden.ensures.value at c.hidden.ensures.divided) in
+    let divided : AreDivided d.bounds d.parts.visible (hidden_of d.bounds d.parts.visible) = rw (sym c.requires.sound.place.bounds) (rw c.hidden.ensures.value at c.hidden.ensures.divided) in
     rw c.min.ensures (rectangle_reach_some l c.args.x c.args.y c.args.number c.width.result c.gap.result _ _ (to_z-of_z w32 c.across-place.result fits_place ∙ c.across-place.ensures) (to_z-of_z w32 c.buffer_edges-right.result.right fits_right ∙ c.buffer_edges-right.ensures.right) c.requires.found c.requires.shown divided c.gap.ensures c.width.ensures c.requires.pixel.left)

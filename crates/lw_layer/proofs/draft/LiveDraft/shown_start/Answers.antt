@@ -9,7 +9,7 @@ returns-in-None c =
     let l = layout c.args.self.now in
     let fits_place : FitsSigned w32 c.across-place.result = search rules in
     let fits_row : FitsSigned w32 c.down.result = search rules in
-    shown_start_none l c.args.x c.args.y _ _ _ (to_z-of_z w32 c.across-place.result fits_place ∙ c.across-place.ensures) (to_z-of_z w32 c.down.result fits_row ∙ c.down.ensures) c.visible_region.ensures c.in-None.ensures (omega (arith, c.requires.column, c.requires.sound.sizes.columns.1))
+    shown_start_none l c.args.x c.args.y _ _ _ (to_z-of_z w32 c.across-place.result fits_place ∙ c.across-place.ensures) (to_z-of_z w32 c.down.result fits_row ∙ c.down.ensures) c.visible_region.ensures c.in-None.ensures (omega (arith, c.requires.column, c.requires.sound.place.sizes.columns.1))
 
 pub returns-in-Some : goal.returns-in-Some
 returns-in-Some c =
