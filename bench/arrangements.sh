@@ -1,65 +1,132 @@
 #!/bin/sh
-# Times arrangements: so many layers of 200 by 200 pixels on a screen of 1024 by 768 with 8 planes, each put in front in turn, or
-# moved by 3 columns and 2 rows in turn (and back in every second round). A script of version 1 has names for 64 layers, so one with
-# more of them is of version 2. It runs scripts through the program, once with the calls and once without them, takes the least of
-# five runs each, and prints how many calls a second the difference gives.
+# Times arrangements: so many layers of 200 by 200 pixels on a screen of 1024 by 768 with 8 planes, each filled once. They are laid
+# over each other in a chain, or all on one place as a stack; or there is just one, which is alone and so covered by nothing. These
+# calls are made on each layer in turn:
 #
-#     bench/arrangements.sh [PROGRAM]
+#     front   it is put in front
+#     move    it is moved by 3 columns and 2 rows, and back in every second round
+#     size    it is made 3 columns wider and 2 rows higher, and in every second round as it was
+#     close   it is closed, and another one is created in front of all, with its bounds; the two together count as one call
 #
-# PROGRAM is the built program; without it, `build` beside this folder proves and builds it first, if it isn't built.
+# There are 3,840 calls. But a script has 128 names at most, and each is used once: so there are 112 calls `close` of 16 layers and
+# 64 of 64, in ten times as many runs, and they go by 128 slots, where the other calls have one for each layer. Scripts with more
+# than 64 names are of version 2. A script is run with the calls and without them, and the row has the difference of the least
+# times, and how many calls a second that gives. It ends with status 2 where a script or a call is refused.
+#
+#     bench/arrangements.sh [PROGRAM [OTHER]] [RUNS]
+#
+# PROGRAM is the built program; without it, `build` beside this folder proves and builds it first, if it isn't built. OTHER is
+# another one, whose times stand behind; the two take turns, run by run. RUNS is how many runs there are of each, 5 without it.
+#
+# Where Debian's packages xvfb and x11-apps are installed, x11perf's -circulate and -move follow, with 16 windows, on Xvfb with a
+# screen of 1024 by 768 and 8 bits a pixel; nothing is installed. Its windows have 8 by 8 pixels and lie in one of 600 by 600. For
+# -circulate each lies 2 columns and 2 rows further than the one before it, and the hindmost of those that another one covers is
+# raised to the top, so each in turn. For -move they lie apart, 4 columns between them, and each in turn is moved by 1 column and 3
+# rows, again from the start where they reach the edge. X keeps no hidden pixels: the server gives what comes into view its
+# background, x11perf asks for no events and paints nothing. So both are nearer to simple layers, and far smaller. The time is that
+# of the clock, with the requests that x11perf sends many at once and another process reads; of RUNS runs of a second the best counts.
 set -eu
 
 bench=$(cd "$(dirname "$0")" && pwd)
+runs=5
+for word; do
+    shift
+    case $word in
+    '' | 0* | *[!0-9]*) set -- "$@" "$word" ;;
+    *) runs=$word ;;
+    esac
+done
+[ $# -le 2 ] || { echo "usage: bench/arrangements.sh [PROGRAM [OTHER]] [RUNS]" >&2; exit 2; }
 . "$bench/program.sh"
+other=${2:-}
 work=$(mktemp -d)
 trap 'rm -rf "$work"' EXIT
 
-# A script: kind, number of layers, call (front or move), rounds.
+# The script of a row, with so many rounds of its call.
 script() {
-    awk -v kind="$1" -v count="$2" -v call="$3" -v rounds="$4" 'BEGIN {
-        if (count > 64) print "layers 2"
-        print "screen 1024 768 8"
-        print "task a"
-        for (i = 0; i < count; i++) {
-            x = (i * 53) % 790
-            y = (i * 37) % 540
-            printf "create l%d %s front %d %d %d %d\n", i, kind, x, y, x + 199, y + 199
-            printf "fill l%d 20 20 179 179\n", i
+    awk -v laid="$laid" -v kind="$kind" -v count="$count" -v call="$call" -v rounds="$1" '
+        function create(name, place) {
+            x = laid == "stack" ? 400 : (place * 53) % 790
+            y = laid == "stack" ? 280 : (place * 37) % 540
+            printf "create l%d %s front %d %d %d %d\n", name, kind, x, y, x + 199, y + 199
         }
-        for (r = 0; r < rounds; r++)
-            for (i = 0; i < count; i++)
-                if (call == "front") printf "front l%d\n", i
-                else printf "move l%d %s\n", i, r % 2 == 0 ? "3 2" : "-3 -2"
-        print "end"
-    }'
+        BEGIN {
+            if (count > 64 || call == "close") print "layers 2"
+            print "screen 1024 768 8"
+            print "task a"
+            for (i = 0; i < count; i++) {
+                create(i, i)
+                printf "fill l%d 20 20 179 179\n", i
+            }
+            for (r = 0; r < rounds; r++)
+                for (i = 0; i < count; i++)
+                    if (call == "front") printf "front l%d\n", i
+                    else if (call == "close") {
+                        printf "close l%d\n", r * count + i
+                        create((r + 1) * count + i, i)
+                    } else printf "%s l%d %s\n", call, i, r % 2 == 0 ? "3 2" : "-3 -2"
+            print "end"
+        }'
 }
 
-# The least time of five runs of a script, in microseconds.
-least() {
-    best=
-    for _ in 1 2 3 4 5; do
-        before=$(date +%s%N)
-        "$program" run <"$1" >"$work/report"
-        after=$(date +%s%N)
-        took=$(((after - before) / 1000))
-        if [ -z "$best" ] || [ "$took" -lt "$best" ]; then best=$took; fi
+# Prints the rows of: how the layers are laid, their kind, their number, and the calls. A line of `times` is of one run, and has the
+# microseconds of each program without the calls, and then with them.
+rows() {
+    laid=$1 kind=$2 count=$3
+    shift 3
+    for call; do
+        rounds=$((3840 / count)) times=$runs
+        if [ "$call" = close ]; then rounds=$((128 / count - 1)) times=$((runs * 10)); fi
+        script 0 >"$work/without"
+        script "$rounds" >"$work/with"
+        for _ in $(seq "$times"); do
+            for calls in without with; do
+                for each in "$program" ${other:+"$other"}; do
+                    before=$(date +%s%N)
+                    "$each" run <"$work/$calls" >"$work/report" || refuse "$each: $(head -n 1 "$work/report")"
+                    after=$(date +%s%N)
+                    printf '%d ' $(((after - before) / 1000))
+                    [ "order $(grep -cx ok "$work/report")" = "$(head -n 1 "$work/report")" ] || refuse "$each refuses a call"
+                done
+            done
+            echo
+        done >"$work/times"
+        awk -v row="$laid $kind $count $call" -v calls=$((rounds * count)) '
+            { for (i = 1; i <= NF; i++) if (NR == 1 || $i < least[i]) least[i] = $i }
+            { programs = NF / 2 }
+            END {
+                printf "%s %d", row, calls
+                for (i = 1; i <= programs; i++) {
+                    took = least[programs + i] - least[i]
+                    printf " %d %d", took, calls * 1000000 / (took > 0 ? took : 1)
+                }
+                print ""
+            }' "$work/times"
     done
-    echo "$best"
+}
+
+# Prints the rows of X. A row of x11perf is "N reps @ T msec (R/sec): NAME".
+rows_of_x() {
+    . "$bench/xvfb.sh"
+    serve
+    x11perf -display "$display" -time 1 -repeat "$runs" -subs 16 -circulate -move >"$work/x"
+    awk -F '[(/]' '
+        / reps @ / {
+            row = /: Circulate/ ? "chain x11perf 16 circulate" : "apart x11perf 16 move"
+            if ($2 + 0 > rate[row] + 0) { rate[row] = $2; calls[row] = $1 }
+        }
+        END { for (row in rate) printf "%s %d %d %d\n", row, calls[row], calls[row] * 1000000 / rate[row], rate[row] }' "$work/x"
 }
 
 load before
-echo "kind layers call calls microseconds calls-a-second"
+echo "laid kind layers call calls microseconds calls-a-second${other:+ microseconds calls-a-second}"
 for kind in smart simple; do
-    for count in 16 64 128; do
-        script "$kind" "$count" front 0 >"$work/none"
-        none=$(least "$work/none")
-        for call in front move; do
-            rounds=$((3840 / count))
-            script "$kind" "$count" "$call" "$rounds" >"$work/calls"
-            took=$(($(least "$work/calls") - none))
-            calls=$((rounds * count))
-            echo "$kind $count $call $calls $took $((calls * 1000000 / (took > 0 ? took : 1)))"
-        done
-    done
+    rows chain "$kind" 16 front move size close
+    rows chain "$kind" 64 front move size close
+    rows chain "$kind" 128 front move size
+    rows stack "$kind" 16 front move
+    rows stack "$kind" 64 front move
+    rows alone "$kind" 1 move
 done
+if (needs Xvfb:xvfb x11perf:x11-apps) 2>&1; then (rows_of_x); fi
 load after
