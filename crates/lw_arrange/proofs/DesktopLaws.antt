@@ -1,8 +1,9 @@
 -- The desktop after an arrangement: what stays of it, and what is put together anew.
-use Rattle.std.proofs.Common.{◌≡◌, ℕ, zero, suc, ◌+◌, ◌<◌, Bool, true, false, not, ◌&&◌, ◌||◌, List, [], ◌∷◌, ◌++◌, map, take, length, get_or, ℤ, ◌≤ℤ◌, Option, Some, None, refl, sym, ap, subst, ◌∙◌, inl, inr, arith}
-use Rattle.std.specs.List.{All}
+use Rattle.std.proofs.Common.{◌≡◌, ℕ, zero, suc, ◌+◌, ◌<◌, ◌==◌, Bool, true, false, not, ◌&&◌, ◌||◌, List, [], ◌∷◌, ◌++◌, map, take, length, get_or, ℤ, ◌≤ℤ◌, Option, Some, None, refl, sym, ap, subst, ◌∙◌, ◌⊎◌, ◌≢◌, cond, inl, inr, arith}
+use Rattle.std.specs.Prelude.{if◌then◌else◌}
+use Rattle.std.specs.List.{All, find}
 use Rattle.std.specs.Option.{is_some}
-use Rattle.std.proofs.lemmas.Bool.{false≢true, and_parts, and_from, and_right, eqb-true, eq-eqb}
+use Rattle.std.proofs.lemmas.Bool.{false≢true, and_parts, and_from, and_right, eqb-true, eq-eqb, ne_eqb, cases_eq}
 use Rattle.std.proofs.lemmas.Int.{ints}
 use Rattle.std.proofs.Math.Bool.{and_comm, or-false}
 use Rattle.std.proofs.lemmas.List.{map-append, take_more}
@@ -18,11 +19,13 @@ use Rattle.lw_calls.specs.declared.sizes.Sizes.{Sizes}
 use Rattle.lw_machine.specs.Desk.{is_the}
 use Rattle.lw_strips.specs.Strips.{StripView, strip_of, blank_planes, rects_of}
 use Rattle.lw_strips.specs.Laying.{screen, LiesIn, AreDisjoint}
-use Rattle.lw_stack.specs.Stack.{Stack, first_at, top_in, is_top_in, LieApart}
+use Rattle.lw_stack.specs.Stack.{Stack, IsStack, bounds_at, first_at, top_in, is_top_in, LieApart}
 use Rattle.lw_stack.specs.Desktop.{is_bare, IsDesktop}
-use Rattle.lw_arrange.specs.Desktops.{IsSorted}
+use Rattle.lw_arrange.specs.Desktops.{IsSorted, IsRestOf}
 use Rattle.lw_cliprects.specs.Parts.{LieIn}
-use Rattle.lw_machine.specs.Screen.{screen_bounds}
+use Rattle.lw_machine.specs.Screen.{bounds_have, screen_bounds}
+use Rattle.lw_machine.specs.Reveal.{has_bounds}
+use Rattle.lw_calls.specs.Orders.{occurrences}
 use Rattle.lw_arrange.proofs.PieceLaws.{first_is_top}
 
 -- a rectangle that was grown has all places that it had
@@ -254,11 +257,10 @@ pub record IsRemade (v w : Stack) (area : List Rectangle) (strips kept : List St
   pub parted : IsParted area v.sizes.depth strips kept near
   pub clear : (x y : ℤ) → covers cleared x y ≡ (covers near x y && not (covers area x y))
   pub join : (x y : ℤ) → covers joined x y ≡ (covers cleared x y || covers rest x y)
-  pub left : (x y : ℤ) → covers rest x y ≡ (covers area x y && not (is_some (first_at w.bounds w.front_to_back x y)))
+  pub left : IsRestOf w area rest
   pub inside : LieIn (screen_bounds v.sizes) area
   pub same : w.sizes ≡ v.sizes
-  pub elsewhere : (s : ℕ) (x y : ℤ) → covers area x y ≡ false
-      → is_top_in v s x y ≡ is_top_in w s x y
+  pub bare : (x y : ℤ) → covers area x y ≡ false → is_bare v x y ≡ is_bare w x y
 
 -- a place of the screen without a top is one without a layer
 bare_by_top : (v : Stack) (x y : ℤ) → is_bare v x y ≡ (has_pixel (screen_bounds v.sizes) x y && not (is_some (top_in v x y)))
@@ -270,6 +272,74 @@ one_first None None each = refl
 one_first None (Some n) each = absurd (false≢true (each n ∙ eq-eqb n n refl))
 one_first (Some m) None each = absurd (false≢true (sym (each m) ∙ eq-eqb m m refl))
 one_first (Some m) (Some n) each = ap Some (sym (eqb-true n m (sym (each m) ∙ eq-eqb m m refl)))
+
+-- where each layer is on top in both lists or in none, both have no layer
+pub bare_elsewhere : (v w : Stack) (x y : ℤ) → w.sizes ≡ v.sizes → ((s : ℕ) → is_top_in v s x y ≡ is_top_in w s x y)
+    → is_bare v x y ≡ is_bare w x y
+bare_elsewhere v w x y same each =
+    bare_by_top v x y
+    ∙ (ap (λ o. has_pixel (screen_bounds v.sizes) x y && not (is_some o)) (one_first (top_in v x y) (top_in w x y) each)
+    ∙ (ap (λ z. has_pixel (screen_bounds z) x y && not (is_some (top_in w x y))) (sym same) ∙ sym (bare_by_top w x y)))
+
+-- a slot of a list that passes a test is found, and what is found is one
+found_of : (p : ℕ → Bool) (us : List ℕ) (s : ℕ) → 0 < occurrences s us → p s ≡ true → is_some (find p us) ≡ true
+found_of p [] s there passes = absurd (omega arith)
+found_of p (u ∷ us) s there passes = by_test (p u) refl (cases_eq u s) (λ below. found_of p us s below passes)
+  where
+    by_test : (b : Bool) → p u ≡ b → (u ≡ s ⊎ u ≢ s) → (0 < occurrences s us → is_some (find p us) ≡ true)
+        → is_some (cond b (Some u) (find p us)) ≡ true
+    by_test true is which rest = refl
+    by_test false is (inl same) rest = absurd (false≢true (sym is ∙ (ap p same ∙ passes)))
+    by_test false is (inr other) rest = rest (omega (arith, subst (λ b. 0 < (if b then 1 else 0) + occurrences s us) (ne_eqb u s other) there))
+
+found_in : (p : ℕ → Bool) (us : List ℕ) → is_some (find p us) ≡ true → (s : ℕ) × (0 < occurrences s us) × (p s ≡ true)
+found_in p [] found = absurd (false≢true found)
+found_in p (u ∷ us) found = by_test (p u) refl found (λ rest. found_in p us rest)
+  where
+    more : (b : Bool) (n : ℕ) → 0 < n → 0 < (if b then 1 else 0) + n
+    more b n below = omega arith
+
+    by_test : (b : Bool) → p u ≡ b → is_some (cond b (Some u) (find p us)) ≡ true
+        → (is_some (find p us) ≡ true → (s : ℕ) × (0 < occurrences s us) × (p s ≡ true))
+        → (s : ℕ) × (0 < occurrences s (u ∷ us)) × (p s ≡ true)
+    by_test true is now rest = (u, subst (λ b. 0 < (if b then 1 else 0) + occurrences u us) (sym (eq-eqb u u refl)) (omega arith), is)
+    by_test false is now rest = let one = rest now in (one.0, more (u == one.0) (occurrences one.0 us) one.1, one.2)
+
+both_ways : (a b : Bool) → (a ≡ true → b ≡ true) → (b ≡ true → a ≡ true) → a ≡ b
+both_ways true b one other = sym (one refl)
+both_ways false true one other = other refl
+both_ways false false one other = refl
+
+-- where all bounds stay, so does what no layer has, whatever the order of the layers is
+pub bare_stays : (v w : Stack) (x y : ℤ) → IsStack v → IsStack w → w.sizes ≡ v.sizes → v.bounds ≡ w.bounds
+    → is_bare v x y ≡ is_bare w x y
+unfolding first_at
+bare_stays v w x y from to same bounds =
+    ap (λ (z : Sizes). has_pixel (screen z.width z.height) x y && not (is_some (first_at v.bounds v.front_to_back x y))) (sym same)
+    ∙ ap (λ b. has_pixel (screen w.sizes.width w.sizes.height) x y && not b) some_same
+  where
+    listed : (s : ℕ) → occurrences s v.front_to_back ≡ occurrences s w.front_to_back
+    listed s =
+        from.listed s
+        ∙ (ap (λ (l : List (Option Rectangle)). if has_bounds (bounds_at l s) then 1 else 0) bounds ∙ sym (to.listed s))
+
+    test : ℕ → Bool
+    test s = bounds_have (bounds_at v.bounds s) x y
+
+    goes : is_some (find test v.front_to_back) ≡ true → is_some (find test w.front_to_back) ≡ true
+    goes found =
+        let one = found_in test v.front_to_back found in
+        found_of test w.front_to_back one.0 (subst (λ n. 0 < n) (listed one.0) one.1) one.2
+
+    comes : is_some (find test w.front_to_back) ≡ true → is_some (find test v.front_to_back) ≡ true
+    comes found =
+        let one = found_in test w.front_to_back found in
+        found_of test v.front_to_back one.0 (subst (λ n. 0 < n) (sym (listed one.0)) one.1) one.2
+
+    some_same : is_some (first_at v.bounds v.front_to_back x y) ≡ is_some (first_at w.bounds w.front_to_back x y)
+    some_same =
+        both_ways (is_some (find test v.front_to_back)) (is_some (find test w.front_to_back)) goes comes
+        ∙ ap (λ (l : List (Option Rectangle)). is_some (first_at l w.front_to_back x y)) bounds
 
 kept_off : (k n a m : Bool) → (k && n) ≡ false → (k && a) ≡ false → (k && ((n && not a) || (a && m))) ≡ false
 kept_off false n a m one other = refl
@@ -293,13 +363,6 @@ module _ (v w : Stack) (area : List Rectangle) (strips kept : List StripView) (n
   joined_is x y =
       h.join x y ∙ (ap (λ t. t || covers rest x y) (h.clear x y) ∙ ap (λ t. (covers near x y && not (covers area x y)) || t) (h.left x y))
 
-  bare_same : (x y : ℤ) → covers area x y ≡ false → is_bare v x y ≡ is_bare w x y
-  bare_same x y off =
-      bare_by_top v x y
-      ∙ (ap (λ o. has_pixel (screen_bounds v.sizes) x y && not (is_some o))
-      (one_first (top_in v x y) (top_in w x y) (λ s. h.elsewhere s x y off))
-      ∙ (ap (λ z. has_pixel (screen_bounds z) x y && not (is_some (top_in w x y))) (sym h.same) ∙ sym (bare_by_top w x y)))
-
   remade_places : (x y : ℤ) → (covers (rects_of kept) x y || covers joined x y) ≡ is_bare w x y
   remade_places x y =
       let free = not (is_some (first_at w.bounds w.front_to_back x y)) in
@@ -308,7 +371,7 @@ module _ (v w : Stack) (area : List Rectangle) (strips kept : List StripView) (n
       (h.parted.places x y ∙ h.before.places x y) (h.parted.apart x y)
       (λ has. ap (λ t. t && free)
       (sym (ap (λ (z : Sizes). has_pixel (screen z.width z.height) x y) h.same ∙ h.inside x y has)))
-      (bare_same x y)
+      (h.bare x y)
 
   pub joined_inside : All (λ r. LiesIn r (screen w.sizes.width w.sizes.height)) joined
   joined_inside k d below x y has =

@@ -1,13 +1,12 @@
--- What a comparison of rectangles, and of lists of them, tells.
-use Rattle.std.proofs.Common.{◌≡◌, Bool, true, ◌&&◌, List, Some, sym, ap, subst, ◌∙◌, ℤ}
+-- What a comparison of the bounds of all slots tells, and which layers an arrangement leaves as they are.
+use Rattle.std.proofs.Common.{◌≡◌, Bool, true, List, Option, Some, None, refl, sym, ap, subst, ◌∙◌, ℤ}
 use Rattle.std.specs.Bool.{Decides}
-use Rattle.std.specs.Ordering.{int_eq}
+use Rattle.std.specs.Option.{is_some, option_eq}
 use Rattle.std.specs.Cmp.Lexicographic.{pointwise}
-use Rattle.std.proofs.lemmas.Bool.{and_from}
+use Rattle.std.proofs.lemmas.Bool.{false≢true}
 use Rattle.std.proofs.lemmas.Slice.Eq.{slice_eq-Decides}
 use Rattle.lw_region.specs.Rectangle.{Rectangle}
 use Rattle.lw_region.specs.Bands.{covers}
-use Rattle.lw_region.proofs.Numbers.{eq_true}
 use Rattle.lw_layer.specs.View.{CellView, with_live}
 use Rattle.lw_layer.specs.View as view
 use Rattle.lw_layer.specs.Pieces.{IsDamageOf}
@@ -15,27 +14,23 @@ use Rattle.lw_layer.specs.StandsFor.{IsSound}
 use Rattle.lw_damage.specs.Damaged.{Damaged, may_lie}
 use Rattle.lw_stack.specs.Stack.{bounds_at, LieApart}
 use Rattle.lw_reveal.specs.Changed.{carried_to}
-use Rattle.lw_reveal.proofs.PairingLaws.{edges_same}
+use Rattle.lw_reveal.proofs.SameRects.{same_edges, edges_decide}
 use Rattle.lw_reveal.proofs.RevealLaws.{revealed_same}
 use Rattle.lw_arrange.specs.Arrangements.{ArrangementView}
 use Rattle.lw_arrange.specs.Prepared.{created_by, becomes, with_bounds, shown_at}
 use Rattle.lw_arrange.specs.Areas.{IsShownElsewhere, StaysApart}
 use Rattle.lw_arrange.proofs.VisibleLaws.{apart_shown}
 
--- the test of two rectangles, edge by edge
-abbrev pub same_edges : Rectangle → Rectangle → Bool
-same_edges r s = int_eq r.min_x s.min_x && (int_eq r.min_y s.min_y && (int_eq r.max_x s.max_x && int_eq r.max_y s.max_y))
+-- two rectangles that may be none are compared, and lists of such
+maybe_decide : (r s : Option Rectangle) → Decides (option_eq same_edges r s) (r ≡ s)
+maybe_decide None None = (λ same. refl, λ is. refl)
+maybe_decide None (Some s) = (λ same. absurd (false≢true same), λ is. absurd (false≢true (ap is_some is)))
+maybe_decide (Some r) None = (λ same. absurd (false≢true same), λ is. absurd (false≢true (ap is_some (sym is))))
+maybe_decide (Some r) (Some s) = let both = edges_decide r s in (λ same. ap Some (both.0 same), λ is. both.1 (cc is))
 
-edges_decide : (r s : Rectangle) → Decides (same_edges r s) (r ≡ s)
-edges_decide r s = (
-  edges_same r s,
-  λ is. and_from _ _ (eq_true r.min_x s.min_x (ap (λ q. q.min_x) is)) (and_from _ _ (eq_true r.min_y s.min_y (ap (λ q. q.min_y) is))
-      (and_from _ _ (eq_true r.max_x s.max_x (ap (λ q. q.max_x) is)) (eq_true r.max_y s.max_y (ap (λ q. q.max_y) is)))),
-)
-
--- lists of rectangles that a comparison finds equal are
-pub same_list : (shown listed : List Rectangle) (u : Bool) → u ≡ pointwise same_edges shown listed → u ≡ true → shown ≡ listed
-same_list shown listed u u_is u_true = (slice_eq-Decides edges_decide shown listed u u_is).0 u_true
+pub same_bounds_list : (before after : List (Option Rectangle)) (u : Bool) → u ≡ pointwise (option_eq same_edges) before after → u ≡ true
+    → before ≡ after
+same_bounds_list before after u u_is u_true = (slice_eq-Decides maybe_decide before after u u_is).0 u_true
 
 -- A layer whose bounds and visible rectangles are the new ones is revealed as it is.
 pub stays_same : (c : CellView) (d : Damaged) (bounds : Rectangle) (visible : List Rectangle) → IsSound c.live → IsDamageOf c.live d

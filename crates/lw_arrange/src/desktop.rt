@@ -1,14 +1,17 @@
 // The desktop after an arrangement: in the area of the plan what no layer has then, and elsewhere what it was.
 
-ghost use Rattle.std.specs.Prelude.{◌≡◌, ◌≤ℤ◌, ◌++◌, map, false, IfOk, OnOk, None};
+ghost use Rattle.std.specs.Prelude.{◌≡◌, ◌≤ℤ◌, ◌++◌, ℤ, map, false, IfOk, OnOk, IsTrue, None};
 ghost use Rattle.std.specs.List.{All};
+ghost use Rattle.lw_region.specs.Bands.{covers};
 ghost use Rattle.lw_calls.specs.Limits.{IsWithinLimits};
+ghost use Rattle.lw_cliprects.specs.Parts.{LieIn};
+ghost use Rattle.lw_machine.specs.Screen.{screen_bounds};
 ghost use Rattle.lw_strips.specs.Strips.{strip_of};
 ghost use Rattle.lw_strips.specs.Laying.{screen, LiesIn};
 ghost use Rattle.lw_stack.specs.Stack.{LieApart};
-ghost use Rattle.lw_stack.specs.Desktop.{IsDesktop};
+ghost use Rattle.lw_stack.specs.Desktop.{is_bare, IsDesktop};
 ghost use Rattle.lw_arrange.specs.Areas.{HasArea};
-ghost use Rattle.lw_arrange.specs.Desktops.{IsSorted};
+ghost use Rattle.lw_arrange.specs.Desktops.{IsSorted, IsRestOf};
 
 use crate::arrangement::Arrangement;
 use lw_calls::Sizes;
@@ -17,8 +20,9 @@ use lw_stack::{Info, meets};
 use lw_strips::Strip;
 use std::alloc::{AllocError, Global};
 
-/// The strips of the desktop after the arrangement. Those that don't touch its area stay as they are; of the others and what the
-/// area then has of the desktop a canonical list is made, so that what was cut is joined again.
+/// The strips of the desktop after the arrangement. Where no layer's bounds change, all stay as they are; else those do that
+/// don't touch its area, and of the others and what the area then has of the desktop a canonical list is made, so that what was cut
+/// is joined again.
 pub(crate) fn desktop_after(
     alloc: Global,
     info: &Info,
@@ -30,15 +34,52 @@ pub(crate) fn desktop_after(
 {
     // Reading the sizes tells the proof what holds of the list and of the plan.
     let _ = info.sizes();
-    let sizes = arrangement.sizes();
-    let mut strips = Vec::new(alloc);
-    let mut near = Region::new(alloc);
-    let desktop = info.desktop();
-    for strip in desktop {
-        sort(alloc, strip, arrangement.area(), &mut strips, &mut near)?;
+    let _ = arrangement.sizes();
+    if are_same(info.all_bounds(), arrangement.all_bounds()) {
+        let nothing = Region::new(alloc);
+        return remade(alloc, info, arrangement, &nothing, &nothing);
     }
-    clear_region(alloc, arrangement.area(), &mut near)?;
-    or_region(alloc, arrangement.rest(), &mut near)?;
+    remade(
+        alloc,
+        info,
+        arrangement,
+        arrangement.area(),
+        arrangement.rest(),
+    )
+}
+
+// Whether both lists have the same bounds.
+fn are_same(before: &[Option<Rect>], after: &[Option<Rect>]) -> bool
+    ensures { IsTrue result → before.now ≡ after.now }
+{
+    before == after
+}
+
+// The strips of the desktop after the arrangement, which outside this area has the same places as before, and in it these.
+fn remade(
+    alloc: Global,
+    info: &Info,
+    arrangement: &Arrangement,
+    area: &Region,
+    rest: &Region,
+) -> Result<Vec<Strip>, AllocError>
+    requires sizes { arrangement.now.stack.sizes ≡ info.now.sizes }
+    requires inside { LieIn (screen_bounds info.now.sizes) area.now }
+    requires bare { (x y : ℤ) → covers area.now x y ≡ false → is_bare info.now x y ≡ is_bare arrangement.now.stack x y }
+    requires rest { IsRestOf arrangement.now.stack area.now rest.now }
+    ensures { IfOk result (λ strips. IsDesktop arrangement.now.stack strips.items) }
+{
+    // Reading the sizes tells the proof what holds of the list and of the plan.
+    let _ = info.sizes();
+    let sizes = arrangement.sizes();
+    let desktop = info.desktop();
+    let mut strips = Vec::with_capacity(alloc, desktop.len())?;
+    let mut near = Region::new(alloc);
+    for strip in desktop {
+        sort(alloc, strip, area, &mut strips, &mut near)?;
+    }
+    clear_region(alloc, area, &mut near)?;
+    or_region(alloc, rest, &mut near)?;
     push_blank(near.rects(), sizes, &mut strips)?;
     Ok(strips)
 }

@@ -5,6 +5,7 @@ pub mod AppliedView
 pub mod ChangedLaws
 pub mod CarryingLaws
 pub mod PairingLaws
+pub mod SameRects
 pub mod PreparedLaws
 pub mod GainedCounts
 pub mod GainedView

@@ -1,6 +1,6 @@
 // The damage of a layer that stays live, after an arrangement that gives it other bounds or another visible region.
 
-ghost use Rattle.std.specs.Prelude.{◌≡◌, ◌≤◌, true, IfOk};
+ghost use Rattle.std.specs.Prelude.{◌≡◌, ◌≤◌, true, [], IfOk, IsTrue};
 ghost use Rattle.lw_region.specs.Rectangle.{width, height};
 ghost use Rattle.lw_machine.specs.Layer.{is_framed};
 ghost use Rattle.lw_layer.specs.Pieces.{HasFrameRoom, IsDamageOf};
@@ -74,9 +74,20 @@ fn left_region(
 ) -> Result<Region, AllocError>
     ensures { IfOk result (λ left. AreLeft taken spared.now from left) }
 {
+    if takes_all(&taken, spared, &from) {
+        return Ok(Region::new(alloc));
+    }
     let mut out = taken;
     clear_region(alloc, spared, &mut out)?;
     let mut left = from;
     clear_region(alloc, &out, &mut left)?;
     Ok(left)
+}
+
+// Whether just the pixels of the region are taken, and none is spared, so that nothing is left: a layer that keeps what it kept and
+// wasn't damaged needs no further region.
+fn takes_all(taken: &Region, spared: &Region, from: &Region) -> bool
+    ensures { IsTrue result → (spared.now ≡ []) × (taken.now ≡ from.now) }
+{
+    spared.rects().is_empty() && taken.rects() == from.rects()
 }

@@ -177,7 +177,7 @@ fn beside_own(
 ) -> Result<Vec<Rect>, AllocError>
     ensures { IfOk result (λ rects. rects.items ≡ shown.now ++ kept_hidden kind hidden.now) }
 {
-    let mut rects = Vec::with_capacity(alloc, shown.len())?;
+    let mut rects = Vec::with_capacity(alloc, shown.len() + hidden.len())?;
     rects.extend_from_slice(shown)?;
     match kind {
         Kind::Simple => {}

@@ -1,73 +1,28 @@
-use Rattle.std.proofs.Common.{not, ◌&&◌, ◌||◌, ◌++◌, List, None, map, sym, ap, subst, ◌∙◌}
-use Rattle.std.specs.List.{All}
-use Rattle.std.proofs.lemmas.List.{take_all}
-use Rattle.lw_region.specs.Rectangle.{Rectangle}
+use Rattle.std.proofs.Common.{not, ◌&&◌, sym, ap, ◌∙◌}
+use Rattle.std.specs.Option.{is_some}
 use Rattle.lw_region.specs.Bands.{covers}
-use Rattle.lw_region.proofs.SetOps.{combined_lists}
-use Rattle.lw_calls.specs.declared.sizes.Sizes.{Sizes}
-use Rattle.lw_calls.specs.Limits.{IsWithinLimits}
-use Rattle.lw_strips.specs.Strips.{strip_of}
-use Rattle.lw_strips.specs.Laying.{screen, LiesIn}
-use Rattle.lw_arrange.specs.Desktops.{IsSorted}
-use Rattle.lw_arrange.proofs.ElsewhereLaws.{area_on_screen}
-use Rattle.lw_arrange.proofs.DesktopLaws.{IsParted, none_parted, parted_more, IsRemade, joined_inside, desktop_remade}
+use Rattle.std.proofs.lemmas.Bool.{false≢true}
+use Rattle.lw_region.proofs.Canonical.{covers_nil}
+use Rattle.lw_stack.specs.Stack.{first_at}
+use Rattle.lw_arrange.proofs.DesktopLaws.{bare_elsewhere, bare_stays}
 use Rattle.lw_arrange.proofs.desktop.desktop_after.Goals as goal
 
-pub loop-strip-init : goal.loop-strip-init
-loop-strip-init c =
-    none_parted c.args.arrangement.now.area c.args.info.now.sizes.depth c.new-strips.result.items c.new-near.result c.new-strips.ensures.items c.new-near.ensures
+pub remade-requires-clause-inside : goal.remade-requires-clause-inside
+remade-requires-clause-inside c = λ x y has.
+    absurd (false≢true (sym (ap (λ l. covers l x y) c.new-nothing.ensures ∙ covers_nil x y) ∙ has))
 
-pub loop-strip-preserved : goal.loop-strip-preserved
-loop-strip-preserved c =
-    let strips = c.desktop-desktop.result.now in
-    let k = c.loop-strip.strip-index in
-    let P : List Rectangle → Type 0 =
-    λ l. IsSorted l c.strip-item.result c.loop-strip.strips.items c.loop-strip.near c.sort.new.strips.items c.sort.new.near in
-    parted_more c.args.arrangement.now.area c.args.info.now.sizes.depth strips k c.strip-item.result c.loop-strip.strips.items c.sort.new.strips.items
-    c.loop-strip.near c.sort.new.near c.desktop-desktop.ensures.disjoint c.desktop-desktop.ensures.pens c.loop-strip-test.true c.strip-item.is
-    c.loop-strip.invariant (subst P c.area.ensures c.in_ok-sort.ensures)
+pub remade-requires-clause-bare : goal.remade-requires-clause-bare
+remade-requires-clause-bare c = λ x y off.
+    bare_stays c.args.info.now c.args.arrangement.now.stack x y c.sizes.ensures.stack c.sizes-2.ensures.planned.stack c.requires.sizes
+    (sym c.all_bounds.ensures ∙ (c.are_same.ensures c.if-are_same.true ∙ c.all_bounds-2.ensures))
 
-pub push_blank-requires-clause-sizes : goal.push_blank-requires-clause-sizes
-push_blank-requires-clause-sizes c = subst IsWithinLimits (sym c.sizes-sizes.ensures.value) c.sizes-sizes.ensures.planned.stack.limits
+pub remade-requires-clause-rest : goal.remade-requires-clause-rest
+remade-requires-clause-rest c = λ x y.
+    let none = ap (λ l. covers l x y) c.new-nothing.ensures ∙ covers_nil x y in
+    let v = c.args.arrangement.now.stack in
+    none ∙ sym (ap (λ b. b && not (is_some (first_at v.bounds v.front_to_back x y))) none)
 
-pub push_blank-requires-clause-inside : goal.push_blank-requires-clause-inside
-push_blank-requires-clause-inside c =
-    let v = c.args.info.now in
-    let a = c.args.arrangement.now in
-    let remade : IsRemade v a.stack a.area c.desktop-desktop.result.now c.loop-strip.strips.items c.loop-strip.near c.clear_region.new.into c.or_region.new.into a.rest = record {
-      before = c.desktop-desktop.ensures;
-      parted = subst (λ l. IsParted a.area v.sizes.depth l c.loop-strip.strips.items c.loop-strip.near) (take_all c.loop-strip.strip-index c.desktop-desktop.result.now c.loop-strip-test.false) c.loop-strip.invariant;
-      clear = λ x y. (combined_lists.differences c.loop-strip.near c.area-2.result.now c.clear_region.new.into c.in_ok-clear_region.ensures.list).pixels x y
-          ∙ ap (λ l. covers c.loop-strip.near x y && not (covers l x y)) c.area-2.ensures;
-      join = λ x y. (combined_lists.unions c.clear_region.new.into c.rest.result.now c.or_region.new.into c.in_ok-or_region.ensures.list).pixels x y
-          ∙ ap (λ l. covers c.clear_region.new.into x y || covers l x y) c.rest.ensures;
-      left = c.sizes-sizes.ensures.planned.rest;
-      inside = area_on_screen v a.stack a.call a.area c.requires.area.area;
-      same = c.requires.sizes;
-      elsewhere = c.requires.area.elsewhere;
-    } in
-    let P : List Rectangle → Type 0 = λ l. All (λ r. LiesIn r (screen a.stack.sizes.width a.stack.sizes.height)) l in
-    let Q : Sizes → Type 0 = λ z. All (λ r. LiesIn r (screen z.width z.height)) c.rects.result.now in
-    subst Q (sym c.sizes-sizes.ensures.value)
-    (subst P (sym c.rects.ensures.value) (joined_inside v a.stack a.area _ _ _ _ _ _ remade))
-
-pub returns : goal.returns
-returns c =
-    let v = c.args.info.now in
-    let a = c.args.arrangement.now in
-    let remade : IsRemade v a.stack a.area c.desktop-desktop.result.now c.loop-strip.strips.items c.loop-strip.near c.clear_region.new.into c.or_region.new.into a.rest = record {
-      before = c.desktop-desktop.ensures;
-      parted = subst (λ l. IsParted a.area v.sizes.depth l c.loop-strip.strips.items c.loop-strip.near) (take_all c.loop-strip.strip-index c.desktop-desktop.result.now c.loop-strip-test.false) c.loop-strip.invariant;
-      clear = λ x y. (combined_lists.differences c.loop-strip.near c.area-2.result.now c.clear_region.new.into c.in_ok-clear_region.ensures.list).pixels x y
-          ∙ ap (λ l. covers c.loop-strip.near x y && not (covers l x y)) c.area-2.ensures;
-      join = λ x y. (combined_lists.unions c.clear_region.new.into c.rest.result.now c.or_region.new.into c.in_ok-or_region.ensures.list).pixels x y
-          ∙ ap (λ l. covers c.clear_region.new.into x y || covers l x y) c.rest.ensures;
-      left = c.sizes-sizes.ensures.planned.rest;
-      inside = area_on_screen v a.stack a.call a.area c.requires.area.area;
-      same = c.requires.sizes;
-      elsewhere = c.requires.area.elsewhere;
-    } in
-    desktop_remade v a.stack a.area _ _ _ _ _ _ remade c.push_blank.new.strips.items c.rects.ensures.canonical
-    (c.in_ok-push_blank.ensures
-    ∙ (ap (λ (z : Sizes). c.loop-strip.strips.items ++ map (λ r. strip_of r z.depth None) c.rects.result.now) c.sizes-sizes.ensures.value
-    ∙ ap (λ l. c.loop-strip.strips.items ++ map (λ r. strip_of r a.stack.sizes.depth None) l) c.rects.ensures.value))
+pub remade-requires-2-clause-bare : goal.remade-requires-2-clause-bare
+remade-requires-2-clause-bare c = λ x y off.
+    bare_elsewhere c.args.info.now c.args.arrangement.now.stack x y c.requires.sizes
+    (λ s. c.requires.area.elsewhere s x y (sym (ap (λ l. covers l x y) c.area.ensures) ∙ off))

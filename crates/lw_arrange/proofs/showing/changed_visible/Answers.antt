@@ -3,7 +3,7 @@ use Rattle.lw_layer.specs.View.{LiveView}
 use Rattle.lw_layer.specs.StandsFor.{IsSound}
 use Rattle.lw_reveal.proofs.PairingLaws.{edges_same}
 use Rattle.lw_stack.specs.Stack.{LieApart}
-use Rattle.lw_arrange.proofs.SameLaws.{same_list}
+use Rattle.lw_reveal.proofs.SameRects.{same_list}
 use Rattle.lw_arrange.proofs.VisibleLaws.{apart_shown}
 use Rattle.lw_arrange.proofs.showing.changed_visible.Goals as goal
 

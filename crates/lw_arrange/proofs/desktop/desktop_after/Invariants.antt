@@ -1,6 +1,0 @@
-use Rattle.std.proofs.Common.{take}
-use Rattle.lw_arrange.proofs.DesktopLaws.{IsParted}
-use Rattle.lw_arrange.proofs.desktop.desktop_after.Given as goal
-
-abbrev pub invariant-loop-strip : goal.invariant-loop-strip
-invariant-loop-strip l = IsParted l.arrangement.area l.info.sizes.depth (take l.strip-index l.desktop) l.strips.items l.near
