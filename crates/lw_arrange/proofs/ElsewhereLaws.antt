@@ -1,5 +1,5 @@
--- Outside the area of an arrangement each layer is shown as before.
-use Rattle.std.proofs.Common.{◌≡◌, ℕ, ◌==◌, Bool, true, false, not, ◌&&◌, ◌||◌, List, [], ◌∷◌, ℤ, Option, Some, None, refl, sym, ap, ◌∙◌}
+-- Outside the area of an arrangement each layer is shown as before, and everywhere one that neither loses nor gains a piece.
+use Rattle.std.proofs.Common.{◌≡◌, ℕ, ◌==◌, Bool, true, false, not, ◌&&◌, ◌||◌, List, [], ◌∷◌, length, ◌<◌, ℤ, Option, Some, None, refl, sym, ap, ◌∙◌}
 use Rattle.std.specs.Prelude.{if◌then◌else◌}
 use Rattle.std.specs.List.{slice_set}
 use Rattle.std.proofs.lemmas.Bool.{false≢true, eq-eqb, and_parts, and_right}
@@ -23,14 +23,16 @@ use Rattle.lw_layer.specs.View as view
 use Rattle.lw_layer.specs.StandsFor.{IsPartOf, StandsFor}
 use Rattle.lw_strips.specs.declared.piece.Piece.{Piece}
 use Rattle.lw_cliprects.specs.Parts.{LieIn}
-use Rattle.lw_stack.specs.Stack.{Stack, bounds_at, top_in, StandsForInfo}
+use Rattle.lw_stack.specs.Stack.{Stack, bounds_at, top_in, is_top_in, StandsForInfo}
 use Rattle.lw_stack.specs.Laws.{DifferAt}
 use Rattle.lw_stack.proofs.FirstLaws.{top_elsewhere as other_elsewhere}
 use Rattle.lw_stack.proofs.ListLaws.{shown_is_top}
 use Rattle.lw_arrange.specs.Planning.{is_backdrop_at, with_new, without_slot, with_order, with_front, with_back, with_pair, with_change, changed_bounds, stack_after}
 use Rattle.lw_arrange.specs.Arrangements.{ArrangementView}
-use Rattle.lw_arrange.specs.Areas.{slot_arranged, slot_has, IsAreaOf, HasArea, is_visible, IsShownElsewhere}
+use Rattle.lw_arrange.specs.Areas.{slot_arranged, slot_has, IsAreaOf, HasArea, is_visible, IsShownElsewhere, IsShownUnlessExchanged}
+use Rattle.lw_arrange.specs.Pieces.{ArePieces}
 use Rattle.lw_arrange.proofs.StandLaws.{shown_nowhere}
+use Rattle.lw_arrange.proofs.KeptPlaces.{same_top}
 
 -- a list with a slot put into it is the same without the slot
 without_first : (s : ℕ) (us : List ℕ) → without s (s ∷ us) ≡ without s us
@@ -180,14 +182,25 @@ plan_area v after looks task call copy area shown rest pieces is same around = r
   elsewhere = λ s x y off. ap (λ o. is_the o s) (top_elsewhere v after looks call area is around x y off);
 }
 
--- Where a cell stands for its slot's part of a desk, it shows outside the area what the plan says, whatever hook its layer has.
-pub shown_elsewhere : (d : Desk) (v : Stack) (a : ArrangementView) (c : CellView) (h : Option Hook) → d.sizes ≡ v.sizes
-    → StandsForInfo v (info_part d) → HasArea v a → StandsFor (hooked h c) (slot_part d c.number) → IsShownElsewhere a c
-shown_elsewhere d v a c h same info has stands x y off =
-    by_state c.state stands
-    ∙ (shown_is_top v d same info c.number x y ∙ has.elsewhere c.number x y off)
+-- Where a cell stands for its slot's part of a desk, it shows what LayerInfo's list says, whatever hook its layer has: so it shows
+-- what the plan says outside the area, and at every place if its slot neither loses nor gains a piece.
+shown_before : (d : Desk) (v : Stack) (c : CellView) (h : Option Hook) → d.sizes ≡ v.sizes → StandsForInfo v (info_part d)
+    → StandsFor (hooked h c) (slot_part d c.number) → (x y : ℤ) → is_visible c.state c.live x y ≡ is_top_in v c.number x y
+shown_before d v c h same info stands x y = by_state c.state stands ∙ shown_is_top v d same info c.number x y
   where
     by_state : (q : State) → IsPartOf q (hooked h c).live (slot_part d c.number) → is_visible q c.live x y ≡ is_shown d c.number x y
     by_state view.Unopened part = sym (shown_nowhere d c.number x y part.1)
     by_state view.Live part = sym (part.shown x y)
     by_state view.Closed part = sym (shown_nowhere d c.number x y part.1)
+
+pub shown_elsewhere : (d : Desk) (v : Stack) (a : ArrangementView) (c : CellView) (h : Option Hook) → d.sizes ≡ v.sizes
+    → StandsForInfo v (info_part d) → HasArea v a → StandsFor (hooked h c) (slot_part d c.number) → IsShownElsewhere a c
+shown_elsewhere d v a c h same info has stands x y off =
+    shown_before d v c h same info stands x y ∙ has.elsewhere c.number x y off
+
+pub shown_unless_exchanged : (d : Desk) (v : Stack) (a : ArrangementView) (c : CellView) (h : Option Hook) → d.sizes ≡ v.sizes
+    → StandsForInfo v (info_part d) → a.stack.sizes ≡ v.sizes → length v.bounds ≡ v.sizes.slots
+    → length a.stack.bounds ≡ a.stack.sizes.slots → ArePieces v a.stack a.pieces → c.number < v.sizes.slots
+    → StandsFor (hooked h c) (slot_part d c.number) → IsShownUnlessExchanged a c
+shown_unless_exchanged d v a c h same info sizes many many_after pieces low stands none x y =
+    shown_before d v c h same info stands x y ∙ same_top v a.stack a.pieces c.number x y sizes many many_after pieces low none

@@ -20,4 +20,5 @@ pub mod VisibleLaws
 pub mod PieceLaws
 pub mod ExchangeLaws
 pub mod DesktopLaws
+pub mod KeptPlaces
 mod FewRectangles

@@ -1,5 +1,5 @@
 -- The pieces of an area that change owner: what each owner loses to each other one, and that no place has two owners.
-use Rattle.std.proofs.Common.{◌≡◌, ℕ, ◌+◌, ◌<◌, ◌≤◌, ◌==◌, Bool, true, false, not, ◌&&◌, cond, List, [], ◌∷◌, ◌++◌, take, get_or, map, length, ℤ, Option, Some, None, refl, sym, ap, subst, ◌∙◌, inl, inr, arith}
+use Rattle.std.proofs.Common.{◌≡◌, ℕ, ◌+◌, ◌<◌, ◌≤◌, ◌==◌, Bool, true, false, not, ◌&&◌, ◌||◌, cond, List, [], ◌∷◌, ◌++◌, take, get_or, map, length, ℤ, Option, Some, None, refl, sym, ap, subst, ◌∙◌, inl, inr, arith}
 use Rattle.std.specs.Prelude.{if◌then◌else◌}
 use Rattle.std.specs.List.{All, filter, flat_map}
 use Rattle.std.specs.Option.{is_some}
@@ -10,9 +10,9 @@ use Rattle.lw_region.specs.Rectangle.{Rectangle, has_pixel}
 use Rattle.lw_region.specs.Pixels.{pixels_of, intersection}
 use Rattle.lw_region.specs.Bands.{bands, covers}
 use Rattle.lw_region.specs.Banded.{IsCanonical}
-use Rattle.lw_region.proofs.Canonical.{covers_nil}
+use Rattle.lw_region.proofs.Canonical.{covers_nil, covers_append}
 use Rattle.lw_region.proofs.Disjoint.{has_at}
-use Rattle.lw_region.proofs.SetOps.{combined_lists, canonical_bands, canonical_nil, canonical_empty}
+use Rattle.lw_region.proofs.SetOps.{combined_lists, covers_one, canonical_bands, canonical_nil, canonical_empty}
 use Rattle.lw_calls.specs.declared.sizes.Sizes.{Sizes}
 use Rattle.lw_machine.specs.Desk.{is_the}
 use Rattle.lw_machine.specs.Screen.{screen_bounds}
@@ -22,7 +22,7 @@ use Rattle.lw_cliprects.specs.Parts.{LieIn}
 use Rattle.lw_stack.specs.declared.sets.SlotSet.{SlotSet}
 use Rattle.lw_stack.specs.Sets.{set_of, sets_of, AreOfOthers, AreOfSlots}
 use Rattle.lw_stack.proofs.SetsLaws.{slots_more, set_more, set_in, past_none}
-use Rattle.lw_stack.specs.Stack.{Stack, first_at, top_in, AreShownIn}
+use Rattle.lw_stack.specs.Stack.{Stack, first_at, top_in, AreShownIn, LieApart}
 use Rattle.lw_stack.proofs.FirstLaws.{top_on_screen}
 use Rattle.lw_arrange.specs.Pieces.{is_owner, owner_has, between, ArePieces, owner_in, piece_of, pieces_to, with_desktop, losses_to, all_losses, AreOwnersOf, AreExchanged}
 
@@ -36,24 +36,36 @@ common_places a b x y = (combined_lists.intersections a b (common a b) refl).pix
 nothing_common : (a b : List Rectangle) → ((x y : ℤ) → (covers a x y && covers b x y) ≡ false) → common a b ≡ []
 nothing_common a b none = canonical_empty (common a b) (canonical_bands _) (λ x y. common_places a b x y ∙ none x y)
 
--- an owner that had nothing loses nothing, and one that gets nothing gains nothing
-pub nothing_lost : (a b : ℕ) (lost gained : List Rectangle) → lost ≡ [] → pieces_to a lost b gained ≡ []
-nothing_lost a b lost gained empty =
-    by_test (a == b) (nothing_common lost gained (λ x y. ap (λ l. covers l x y && covers gained x y) empty ∙ ap (λ t. t && covers gained x y) (covers_nil x y)))
+-- between owners that have no place in common there is no piece; so an owner that had nothing loses nothing
+pub nothing_shared : (a b : ℕ) (lost gained : List Rectangle) → ((x y : ℤ) → (covers lost x y && covers gained x y) ≡ false)
+    → pieces_to a lost b gained ≡ []
+nothing_shared a b lost gained none = by_test (a == b) (nothing_common lost gained none)
   where
     by_test : (t : Bool) → common lost gained ≡ [] → (if t then [] else map (piece_of a b) (common lost gained)) ≡ []
     by_test true none = refl
     by_test false none = ap (map (piece_of a b)) none
 
-pub nothing_gained : (a b : ℕ) (lost gained : List Rectangle) → gained ≡ [] → pieces_to a lost b gained ≡ []
-nothing_gained a b lost gained empty =
-    by_test (a == b)
-    (nothing_common lost gained
-    (λ x y. ap (λ l. covers lost x y && covers l x y) empty ∙ (ap (λ t. covers lost x y && t) (covers_nil x y) ∙ and_right (covers lost x y) false refl)))
-  where
-    by_test : (t : Bool) → common lost gained ≡ [] → (if t then [] else map (piece_of a b) (common lost gained)) ≡ []
-    by_test true none = refl
-    by_test false none = ap (map (piece_of a b)) none
+nothing_lost : (a b : ℕ) (lost gained : List Rectangle) → lost ≡ [] → pieces_to a lost b gained ≡ []
+nothing_lost a b lost gained empty =
+    nothing_shared a b lost gained
+    (λ x y. ap (λ l. covers l x y && covers gained x y) empty ∙ ap (λ t. t && covers gained x y) (covers_nil x y))
+
+-- a list that shares no place with another, and no place with one rectangle more
+neither : (a b c : Bool) → (a && b) ≡ false → (a && c) ≡ false → (a && (b || c)) ≡ false
+neither true true c one other = one
+neither true false c one other = other
+neither false b c one other = refl
+
+pub shares_none : (lost : List Rectangle) (x y : ℤ) → (covers lost x y && covers [] x y) ≡ false
+shares_none lost x y = and_right (covers lost x y) (covers [] x y) (covers_nil x y)
+
+pub shares_no_more : (lost rects : List Rectangle) (k : ℕ) (r : Rectangle) → k < length rects → r ≡ get_or rects k r
+    → ((x y : ℤ) → (covers lost x y && covers (take k rects) x y) ≡ false) → LieApart lost r
+    → (x y : ℤ) → (covers lost x y && covers (take (k + 1) rects) x y) ≡ false
+shares_no_more lost rects k r below is before apart x y =
+    ap (λ l. covers lost x y && covers l x y) (take_more rects k r below ∙ ap (λ q. take k rects ++ q ∷ []) (sym is))
+    ∙ (ap (λ t. covers lost x y && t) (covers_append (take k rects) (r ∷ []) x y ∙ ap (λ t. covers (take k rects) x y || t) (covers_one r x y))
+    ∙ neither (covers lost x y) (covers (take k rects) x y) (has_pixel r x y) (before x y) (apart x y))
 
 pub no_losses : (a : ℕ) (lost : List Rectangle) (owners : List SlotSet) → lost ≡ [] → losses_to a lost owners ≡ []
 no_losses a lost [] empty = refl
@@ -304,7 +316,7 @@ top_once (Some m) a b other = by_test (m == a) refl
     by_test true is = ap (λ k. k == b) (eqb-true m a is) ∙ other
     by_test false is = refl
 
-pub one_owner : (slots : ℕ) (on : Bool) (o : Option ℕ) (a b : ℕ) → (a == b) ≡ false → (is_owner slots on o a && is_owner slots on o b) ≡ false
+one_owner : (slots : ℕ) (on : Bool) (o : Option ℕ) (a b : ℕ) → (a == b) ≡ false → (is_owner slots on o a && is_owner slots on o b) ≡ false
 one_owner slots on o a b other = by_test (a == slots) (b == slots) refl refl
   where
     bare : Bool

@@ -22,7 +22,8 @@ use Rattle.lw_stack.proofs.FirstLaws.{not_top}
 use Rattle.lw_stack.proofs.ListedLaws.{shown_places, shown_list_law}
 use Rattle.lw_arrange.specs.Arrangements.{ArrangementView, IsArrangement}
 use Rattle.lw_arrange.specs.Prepared.{shown_at}
-use Rattle.lw_arrange.specs.Areas.{is_visible, IsShownElsewhere}
+use Rattle.lw_arrange.specs.Areas.{is_visible, IsShownElsewhere, IsShownUnlessExchanged}
+use Rattle.lw_arrange.specs.Pieces.{exchanges}
 use Rattle.lw_arrange.proofs.PieceLaws.{first_is_top}
 
 -- a canonical list of the places where the slot's layer is on top is what is shown of it
@@ -114,6 +115,12 @@ apart_shown a c bounds sound live here stays apart h =
         hidden x y off
         ∙ sym (not_top a.stack c.number x y (ap (λ o. bounds_have o x y) here ∙ off))
     by_area x y false e = live_elsewhere a c live h x y e
+
+-- and one that neither loses nor gains a piece
+pub unexchanged_shown : (a : ArrangementView) (c : CellView) → IsSound c.live → c.state ≡ view.Live → exchanges c.number a.pieces ≡ false
+    → IsShownUnlessExchanged a c → c.live.visible ≡ shown_at a c.number
+unexchanged_shown a c sound live none h =
+    shown_so a c.number c.live.visible sound.canonical (λ x y. sym (ap (λ q. is_visible q c.live x y) live) ∙ h none x y)
 
 -- a number of 16 bits is a word
 pub word_at : (z b : ℤ) → FitsSigned w16 z → z ≡ b → IsWord b

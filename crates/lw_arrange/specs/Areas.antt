@@ -1,4 +1,5 @@
--- The area of an arrangement: places of the screen, outside which each layer is shown as before.
+-- The area of an arrangement: places of the screen, outside which each layer is shown as before; and what is shown of a layer that
+-- neither loses nor gains a piece.
 use Rattle.std.specs.Prelude.{◌≡◌, ℕ, Bool, false, ◌&&◌, ◌||◌, List, ℤ, Option, Some, None}
 use Rattle.lw_region.specs.Rectangle.{Rectangle, has_pixel}
 use Rattle.lw_region.specs.Bands.{covers}
@@ -8,9 +9,10 @@ use Rattle.lw_calls.specs.declared.call.Call.TheVariants.{SetBox}
 use Rattle.lw_machine.specs.Screen.{bounds_have, screen_bounds}
 use Rattle.lw_layer.specs.View.{State, LiveView, CellView}
 use Rattle.lw_layer.specs.View as view
-use Rattle.lw_stack.specs.Stack.{Stack, bounds_at, is_top_in, LieApart}
+use Rattle.lw_stack.specs.Stack.{Stack, bounds_at, is_top_in}
 use Rattle.lw_arrange.specs.Arrangements.{ArrangementView}
 use Rattle.lw_arrange.specs.Prepared.{shown_at, cell_after}
+use Rattle.lw_arrange.specs.Pieces.{exchanges}
 use Rattle.lw_arrange.specs.declared.arrangement.Step.{Step}
 use Rattle.lw_arrange.specs.declared.arrangement.Step.TheVariants.{Refused, Arranged}
 
@@ -63,11 +65,16 @@ IsShownElsewhere a c =
     (x y : ℤ) → covers a.area x y ≡ false
     → is_visible c.state c.live x y ≡ is_top_in a.stack c.number x y
 
--- The cell's layer stays where it is and has no place of the area, so that the cell stays as it is.
-pub record StaysApart (a : ArrangementView) (c : CellView) : Type 0 where
+-- If the cell's slot neither loses nor gains a piece, what is visible of the cell is at every place what the plan shows of its slot.
+abbrev pub IsShownUnlessExchanged : ArrangementView → CellView → Type 0
+IsShownUnlessExchanged a c =
+    exchanges c.number a.pieces ≡ false → (x y : ℤ) → is_visible c.state c.live x y ≡ is_top_in a.stack c.number x y
+
+-- The cell's layer is live, keeps its bounds, and neither loses nor gains a piece; and the cell stays as it is.
+pub record IsUnaffected (a : ArrangementView) (c : CellView) : Type 0 where
   pub live : c.state ≡ view.Live
   pub bounds : bounds_at a.stack.bounds c.number ≡ Some c.live.bounds
-  pub apart : LieApart a.area c.live.bounds
+  pub unexchanged : exchanges c.number a.pieces ≡ false
   pub same : cell_after a c ≡ c
 
 -- For private contracts.

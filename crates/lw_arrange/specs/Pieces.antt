@@ -1,7 +1,7 @@
 -- The pieces of the screen that change owner in an arrangement (the manual's Layers Library chapter has clip rectangles; that
 -- they are exchanged so is this project's own). Owners are the slots by their numbers, and the desktop by the number of slots.
-use Rattle.std.specs.Prelude.{◌≡◌, ℕ, ◌+◌, ◌≤◌, ◌==◌, Bool, not, ◌&&◌, if◌then◌else◌, List, [], ◌∷◌, ◌++◌, map, ℤ, Option}
-use Rattle.std.specs.List.{All, filter, flat_map, slice_index_or}
+use Rattle.std.specs.Prelude.{◌≡◌, ℕ, ◌+◌, ◌≤◌, ◌==◌, Bool, not, ◌&&◌, ◌||◌, if◌then◌else◌, List, [], ◌∷◌, ◌++◌, map, ℤ, Option}
+use Rattle.std.specs.List.{All, list_any, filter, flat_map, slice_index_or}
 use Rattle.std.specs.Option.{is_some}
 use Rattle.lw_region.specs.Rectangle.{Rectangle, has_pixel}
 use Rattle.lw_region.specs.Pixels.{pixels_of, intersection}
@@ -29,6 +29,10 @@ owner_has v k x y =
 -- the rectangles of the pieces that one owner loses to another, in their order
 abbrev pub between : ℕ → ℕ → List Piece → List Rectangle
 between a b pieces = map (λ p. p.rect) (filter (λ p. p.from == a && p.to == b) pieces)
+
+-- the owner loses or gains a piece
+abbrev pub exchanges : ℕ → List Piece → Bool
+exchanges k pieces = list_any (λ p. p.from == k || p.to == k) pieces
 
 -- From the one list of layers to the other each owner loses to each other owner what the one has before and the other afterwards,
 -- as a canonical list, and to itself nothing.

@@ -25,4 +25,4 @@ pub use laws::arranged_slots_have_few_rectangles;
 pub use plan::plan_step;
 pub use prepared_info::{PreparedInfo, commit_info, give_up_info, prepare_info};
 pub use preparing::{Becomes, Prepared, commit, give_up, prepare, turn_into};
-pub use showing::stays_apart;
+pub use showing::is_unaffected;

@@ -1,10 +1,11 @@
 // The pieces of an area that change owner. Owners are the slots by their numbers, and the desktop by the number of slots.
 
-ghost use Rattle.std.specs.Prelude.{◌≡◌, ◌++◌, map, length, IfOk, OnOk};
+ghost use Rattle.std.specs.Prelude.{◌≡◌, false, ◌&&◌, ◌++◌, map, length, ℤ, IfOk, OnOk};
+ghost use Rattle.lw_region.specs.Bands.{covers};
 ghost use Rattle.lw_arrange.specs.Pieces.{piece_of, pieces_to, with_desktop, losses_to, AreExchanged};
 
 use lw_region::{Rect, Region, and_region};
-use lw_stack::{Shown, SlotSet};
+use lw_stack::{Shown, SlotSet, meets};
 use lw_strips::Piece;
 use std::alloc::{AllocError, Global};
 
@@ -83,9 +84,26 @@ fn add_pieces(
     if from == to {
         return Ok(());
     }
+    // Most pairs have no place in common, and take no memory.
+    if !share_places(lost, gained) {
+        return Ok(());
+    }
     let mut both = lost.copy(alloc)?;
     and_region(alloc, gained, &mut both)?;
     push_pieces(from, to, both.rects(), pieces)
+}
+
+// Whether the two regions have a place in common.
+fn share_places(lost: &Region, gained: &Region) -> bool
+    ensures { result ≡ false → (x y : ℤ) → (covers lost.now x y && covers gained.now x y) ≡ false }
+{
+    let rects = gained.rects();
+    for rect in rects {
+        if meets(lost, rect) {
+            return true;
+        }
+    }
+    false
 }
 
 // Adds a piece for each rectangle.

@@ -1,23 +1,26 @@
-// What is visible of a layer after an arrangement: in the area of the plan what that says, and elsewhere what is visible already.
+// What is visible of a layer after an arrangement: in the area of the plan what that says, and elsewhere what is visible already; and
+// all that is visible already of a layer that neither loses nor gains a piece.
 
-ghost use Rattle.std.specs.Prelude.{◌≡◌, ◌<◌, true, ℤ, Some, IfOk};
+ghost use Rattle.std.specs.Prelude.{◌≡◌, ◌↔◌, ◌<◌, true, ℤ, Some, IfOk};
 ghost use Rattle.lw_region.specs.Bands.{covers};
 ghost use Rattle.lw_layer.specs.View as view;
 ghost use Rattle.lw_stack.specs.Stack.{bounds_at};
 ghost use Rattle.lw_arrange.specs.Prepared.{shown_at};
-ghost use Rattle.lw_arrange.specs.Areas.{IsShownElsewhere, StaysApart, IsVisibleAfter};
+ghost use Rattle.lw_arrange.specs.Areas.{IsShownElsewhere, IsShownUnlessExchanged, IsUnaffected, IsVisibleAfter};
+ghost use Rattle.lw_arrange.specs.Pieces.{exchanges};
 
 use crate::arrangement::Arrangement;
 use lw_layer::{Cell, Layer};
 use lw_region::{Rect, Region, clear_region, moved_region, or_region};
 use lw_stack::meets;
+use lw_strips::Piece;
 use std::alloc::{AllocError, Global};
 
-/// Whether the cell's layer stays where it is and doesn't meet the arrangement's area, so that the cell stays as it is: preparing
-/// it would change nothing. No rectangle of what is visible is looked at.
-pub fn stays_apart(cell: &Cell, arrangement: &Arrangement) -> bool
-    requires { IsShownElsewhere arrangement.now cell.now }
-    ensures { result ≡ true → StaysApart arrangement.now cell.now }
+/// Whether the cell's layer is live, keeps its bounds, and neither loses nor gains a piece: then what `prepare` makes ready leaves the
+/// cell as it is. What its window is told doesn't count here. No rectangle of what is visible is looked at.
+pub fn is_unaffected(cell: &Cell, arrangement: &Arrangement) -> bool
+    requires { IsShownUnlessExchanged arrangement.now cell.now }
+    ensures { result ≡ true ↔ IsUnaffected arrangement.now cell.now }
 {
     let Some(layer) = cell.layer() else {
         return false;
@@ -30,7 +33,16 @@ pub fn stays_apart(cell: &Cell, arrangement: &Arrangement) -> bool
     if layer.look().bounds != bounds {
         return false;
     }
-    !meets(arrangement.area(), &bounds)
+    !exchanges(cell.slot(), arrangement.pieces())
+}
+
+// Whether the owner loses or gains a piece.
+fn exchanges(owner: u32, pieces: &[Piece]) -> bool
+    ensures { result ≡ exchanges owner pieces.now }
+{
+    pieces
+        .iter()
+        .any(|piece| piece.from == owner || piece.to == owner)
 }
 
 /// The visible region of a new layer in the cell: what is shown of it in the area, since elsewhere nothing is.

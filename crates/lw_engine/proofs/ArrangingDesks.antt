@@ -31,7 +31,7 @@ use Rattle.lw_layer.specs.StandsFor.{slot_of, IsPartOf, StandsFor, IsSound}
 use Rattle.lw_layer.proofs.SoundLaws.{slot_told}
 use Rattle.lw_layer.specs.Windows.{without_room, HasRoom}
 use Rattle.lw_layer.specs.declared.look.Look.{Look}
-use Rattle.lw_stack.specs.Stack.{Stack, bounds_at, StandsForInfo}
+use Rattle.lw_stack.specs.Stack.{Stack, bounds_at, IsStack, StandsForInfo}
 use Rattle.lw_arrange.specs.Arrangements.{ArrangementView, IsArrangement}
 use Rattle.lw_arrange.specs.declared.arrangement.Step.{Step}
 use Rattle.lw_arrange.specs.declared.arrangement.Step.TheVariants.{Arranged}
@@ -39,12 +39,13 @@ use Rattle.lw_arrange.specs.Arranged.{IsTold, IsFresh, AreOf, IsArrangementOf, I
 use Rattle.lw_arrange.specs.Steps.{KeepsSizes}
 use Rattle.lw_arrange.specs.Prepared.{created_by, without_layer}
 use Rattle.lw_arrange.specs.Areas.{HasArea}
+use Rattle.lw_arrange.specs.Pieces.{ArePieces}
 use Rattle.lw_arrange.specs.Filled.{hook_asked}
 use Rattle.lw_arrange.specs.Settled.{settled_with, settled_by}
 use Rattle.lw_arrange.proofs.StandLaws.{IsDone, IsHookAsked, there, idle_slot, slot_stands}
 use Rattle.lw_backfill.proofs.ShelfLaws.{shelf_after as without_one}
 use Rattle.lw_arrange.proofs.MayLaws.{may_prepare}
-use Rattle.lw_arrange.proofs.ElsewhereLaws.{shown_elsewhere}
+use Rattle.lw_arrange.proofs.ElsewhereLaws.{shown_elsewhere, shown_unless_exchanged}
 use Rattle.lw_engine.specs.Desks.{cell_at, hook_at, AreNumbered, AreOfDesk, AreAsBefore, AreOnShelf}
 use Rattle.lw_engine.specs.Slots.{hook_in, bare, asked_hook, shelf_without, shelf_after, slot_after, MayBeReady}
 use Rattle.lw_engine.specs.Arranging.{AreLooks, IsFreshSlot, AreChanged, DropHooks}
@@ -275,10 +276,10 @@ idle_arranged d task call n all done dead idle = absurd (false≢true all)
 
 -- Each slot's cell may be made ready.
 pub cells_may : (d : Desk) (v : Stack) (cells : List CellView) (task : ℕ) (call : Call) (a : ArrangementView) → AreOfDesk v cells d → AreNumbered v.sizes.slots cells
-    → IsDone d task call a → HasArea v a
+    → IsDone d task call a → HasArea v a → ArePieces v a.stack a.pieces → IsStack v → IsStack a.stack → a.stack.sizes ≡ v.sizes
     → ((s : ℕ) → s < length cells → (cell_at cells s).state ≡ view.Live → IsSound (bare (cell_at cells s)).live)
     → ((s : ℕ) → s < length cells → HasRoom 5 (cell_at cells s)) → (s : ℕ) → s < length cells → MayBeReady a (cell_at cells s)
-cells_may d v cells task call a are numbered done has sound room s below =
+cells_may d v cells task call a are numbered done has pieces stack after sizes sound room s below =
     let c = cell_at cells s in
     let low : s < v.sizes.slots = omega (arith, numbered.many, below) in
     let number : c.number ≡ s = numbered.numbers s low in
@@ -286,6 +287,8 @@ cells_may d v cells task call a are numbered done has sound room s below =
     record {
       prepare = may_prepare d task call a (bare c) (hook_in c) done before (sound s below);
       elsewhere = shown_elsewhere d v a (bare c) (hook_in c) are.sizes are.info has before;
+      unexchanged =
+          shown_unless_exchanged d v a (bare c) (hook_in c) are.sizes are.info sizes stack.many after.many pieces (omega (arith, number, low)) before;
       idle =
           λ idle.
           let dead : is_live (d.slot c.number) ≡ false = (idle_part c (slot_part d c.number) idle before).0 in

@@ -2,37 +2,32 @@
 use Rattle.std.proofs.Common.{◌≡◌, ℕ, ◌+◌, ◌<◌, ◌≤◌, ◌==◌, Bool, true, false, not, ◌&&◌, ◌||◌, cond, List, [], ◌∷◌, map, length, get_or, ℤ, Option, Some, None, ◌⊎◌, inl, inr, refl, sym, ap, subst, ◌∙◌, ⊎_elim, arith}
 use Rattle.std.specs.Prelude.{if◌then◌else◌}
 use Rattle.std.specs.List.{All, filter, sum_by}
-use Rattle.std.specs.Option.{is_some}
 use Rattle.std.proofs.Math.Bool.{and-true}
-use Rattle.std.proofs.lemmas.Bool.{false≢true, ne_eqb, eq-eqb, eqb-true, and_right}
+use Rattle.std.proofs.lemmas.Bool.{false≢true, eq-eqb, eqb-true, and_right}
 use Rattle.std.proofs.lemmas.List.Elements.{All-head, All-tail, All-weaker}
-use Rattle.lw_region.specs.Rectangle.{Rectangle, has_pixel}
-use Rattle.lw_region.specs.Bands.{covers}
+use Rattle.lw_region.specs.Rectangle.{Rectangle}
 use Rattle.lw_region.proofs.SetOps.{canonical_empty}
 use Rattle.lw_calls.specs.declared.sizes.Sizes.{Sizes}
 use Rattle.lw_calls.specs.Orders.{occurrences}
 use Rattle.lw_machine.specs.Hook.{Hook}
-use Rattle.lw_machine.specs.Desk.{is_the}
 use Rattle.lw_machine.specs.Reveal.{has_bounds}
 use Rattle.lw_machine.specs.Screen.{bounds_have}
 use Rattle.lw_strips.specs.Strips.{StripView, rects_of}
-use Rattle.lw_strips.specs.Laying.{screen}
 use Rattle.lw_strips.specs.Pools.{copies, copies_in}
 use Rattle.lw_strips.specs.Exchange.{lost_by, gained_by, lost_rects, gained_rects, pieces_of, total}
 use Rattle.lw_strips.specs.declared.piece.Piece.{Piece}
 use Rattle.lw_strips.proofs.ExchangeLaws.{exchange}
 use Rattle.lw_layer.specs.View.{State, CellView}
 use Rattle.lw_layer.specs.View as view
-use Rattle.lw_stack.specs.Stack.{Stack, bounds_at, top_in, is_top_in, LieApart}
+use Rattle.lw_stack.specs.Stack.{Stack, bounds_at}
 use Rattle.lw_stack.proofs.FirstLaws.{not_top}
 use Rattle.lw_arrange.specs.Arrangements.{ArrangementView}
-use Rattle.lw_arrange.specs.Areas.{HasArea}
 use Rattle.lw_arrange.specs.Exchanged.{HasPieces}
-use Rattle.lw_arrange.specs.Pieces.{owner_has, between, ArePieces}
+use Rattle.lw_arrange.specs.Pieces.{owner_has, between, exchanges, ArePieces}
 use Rattle.lw_arrange.specs.Prepared.{without_layer}
 use Rattle.lw_arrange.specs.Settled.{settled_by}
 use Rattle.lw_arrange.proofs.DesktopLaws.{blank_rects}
-use Rattle.lw_arrange.proofs.PieceLaws.{one_owner}
+use Rattle.lw_arrange.proofs.KeptPlaces.{none_lost, none_gained, slot_owner_has}
 use Rattle.lw_engine.specs.Desks.{cell_at, AreNumbered}
 use Rattle.lw_engine.specs.Slots.{asked_hook, slot_after, ReadyView, IsLeft}
 use Rattle.lw_engine.specs.Arranging.{AreListed, slots_of, is_concerned, AreReady, AreSettled, with_taken, given_up, AreChanged, AreChangedAt}
@@ -69,36 +64,14 @@ nothing_gained b n (p ∷ pieces) owners none =
     ∙ nothing_gained b n pieces (All-tail (λ q. q.from ≤ n) p pieces owners)
     (λ a low. less_first (p.from == a && p.to == b) p (filter (λ q. q.from == a && q.to == b) pieces) (none a low))
 
-apart_or : (t : Bool) {u : Bool} → (t ≡ false → u ≡ false) → (not t && u) ≡ false
-apart_or true off = refl
-apart_or false off = off refl
-
--- a slot has the places where its layer is on top, and without bounds none
-slot_has : (v : Stack) (s : ℕ) (x y : ℤ) → s < v.sizes.slots → owner_has v s x y ≡ is_top_in v s x y
-slot_has v s x y low =
-    ap (λ t. if t then (has_pixel (screen v.sizes.width v.sizes.height) x y && not (is_some (top_in v x y))) else is_the (top_in v x y) s)
-    (ne_eqb s v.sizes.slots (λ same. absurd (omega (arith, same, low))))
-
+-- a slot without bounds has no places
 without_places : (v : Stack) (s : ℕ) (x y : ℤ) → s < v.sizes.slots → bounds_at v.bounds s ≡ None → owner_has v s x y ≡ false
-without_places v s x y low none = slot_has v s x y low ∙ not_top v s x y (ap (λ o. bounds_have o x y) none)
-
--- a slot that stays where it is, apart from the area, has the same places
-same_places : (v : Stack) (a : ArrangementView) (s : ℕ) (r : Rectangle) → HasArea v a → s < v.sizes.slots → s < a.stack.sizes.slots
-    → bounds_at v.bounds s ≡ Some r → bounds_at a.stack.bounds s ≡ Some r → LieApart a.area r → (x y : ℤ)
-    → owner_has v s x y ≡ owner_has a.stack s x y
-same_places v a s r area low inside before after apart x y =
-    slot_has v s x y low ∙ (by_area (covers a.area x y) refl ∙ sym (slot_has a.stack s x y inside))
-  where
-    by_area : (t : Bool) → covers a.area x y ≡ t → is_top_in v s x y ≡ is_top_in a.stack s x y
-    by_area true is =
-        let off : has_pixel r x y ≡ false = ap (λ t. t && has_pixel r x y) (sym is) ∙ apart x y in
-        not_top v s x y (ap (λ o. bounds_have o x y) before ∙ off) ∙ sym (not_top a.stack s x y (ap (λ o. bounds_have o x y) after ∙ off))
-    by_area false is = area.elsewhere s x y is
+without_places v s x y low none = slot_owner_has v s x y low ∙ not_top v s x y (ap (λ o. bounds_have o x y) none)
 
 -- the parts of the exchange that the slots have for which something is ready
 module _ (v : Stack) (a : ArrangementView) (shelf : List (Option Hook)) (slots : List CellView) (made : List ReadyView)
     (numbered : AreNumbered v.sizes.slots slots) (sizes : a.stack.sizes ≡ v.sizes) (pieces : ArePieces v a.stack a.pieces)
-    (listed : AreListed v slots) (area : HasArea v a) (ready : AreReady v a shelf slots made) where
+    (listed : AreListed v slots) (ready : AreReady v a shelf slots made) where
   ready_once : (s : ℕ) → occurrences s (slots_of made) ≤ 1
   ready_once s = by_test (is_concerned v a.stack s) (ready.once s)
     where
@@ -120,48 +93,31 @@ module _ (v : Stack) (a : ArrangementView) (shelf : List (Option Hook)) (slots :
   slots_same : a.stack.sizes.slots ≡ v.sizes.slots
   slots_same = ap (λ (z : Sizes). z.slots) sizes
 
-  -- it has no place that another owner has afterwards or before
-  kept_places : (s : ℕ) → s < v.sizes.slots → IsLeft a (cell_at slots s) → (x y : ℤ) → owner_has v s x y ≡ owner_has a.stack s x y
-  kept_places s low left =
-      let inside : s < length slots = omega (arith, low, numbered.many) in
-      same_places v a s (cell_at slots s).live.bounds area low (omega (arith, low, slots_same)) (listed s inside left.live)
-      (ap (bounds_at a.stack.bounds) (sym (numbered.numbers s low)) ∙ left.bounds) left.apart
-
-  none_lost : (s b : ℕ) (x y : ℤ) → s < v.sizes.slots → occurrences s (slots_of made) ≡ 0
-      → (not (s == b) && (owner_has v s x y && owner_has a.stack b x y)) ≡ false
-  none_lost s b x y low none =
-      apart_or (s == b)
-      (λ other.
-      ⊎_elim
-      (λ idle. ap (λ t. t && owner_has a.stack b x y) (without_places v s x y low idle.0))
-      (λ left. ap (λ t. t && owner_has a.stack b x y) (kept_places s low left x y)
-      ∙ one_owner a.stack.sizes.slots (has_pixel (screen a.stack.sizes.width a.stack.sizes.height) x y) (top_in a.stack x y) s b other)
-      (unready s none))
-
-  none_gained : (b s : ℕ) (x y : ℤ) → s < v.sizes.slots → occurrences s (slots_of made) ≡ 0
-      → (not (b == s) && (owner_has v b x y && owner_has a.stack s x y)) ≡ false
-  none_gained b s x y low none =
-      apart_or (b == s)
-      (λ other.
-      ⊎_elim
-      (λ idle. and_right (owner_has v b x y) _ (without_places a.stack s x y (omega (arith, low, slots_same)) idle.1))
-      (λ left. ap (λ t. owner_has v b x y && t) (sym (kept_places s low left x y))
-      ∙ one_owner v.sizes.slots (has_pixel (screen v.sizes.width v.sizes.height) x y) (top_in v x y) b s other)
-      (unready s none))
+  -- a slot that is left as it is has no pieces
+  left_out : (s : ℕ) → s < v.sizes.slots → IsLeft a (cell_at slots s) → exchanges s a.pieces ≡ false
+  left_out s low left = ap (λ n. exchanges n a.pieces) (sym (numbered.numbers s low)) ∙ left.unexchanged
 
   idle_lost : (s : ℕ) → s < v.sizes.slots → occurrences s (slots_of made) ≡ 0 → lost_rects s a.pieces ≡ []
   idle_lost s low none =
+      ⊎_elim
+      (λ idle.
       nothing_lost s v.sizes.slots a.pieces
       (All-weaker (λ p. (p.from ≤ v.sizes.slots) × (p.to ≤ v.sizes.slots)) (λ p. p.to ≤ v.sizes.slots) (λ p both. both.1) a.pieces pieces.owners)
       (λ b below. canonical_empty (between s b a.pieces) (pieces.canonical s b)
-      (λ x y. pieces.places s b x y (omega (arith, low)) below ∙ none_lost s b x y low none))
+      (λ x y. pieces.places s b x y (omega (arith, low)) below
+      ∙ and_right (not (s == b)) _ (ap (λ t. t && owner_has a.stack b x y) (without_places v s x y low idle.0)))))
+      (λ left. none_lost s a.pieces (left_out s low left)) (unready s none)
 
   idle_gained : (s : ℕ) → s < v.sizes.slots → occurrences s (slots_of made) ≡ 0 → gained_rects s a.pieces ≡ []
   idle_gained s low none =
+      ⊎_elim
+      (λ idle.
       nothing_gained s v.sizes.slots a.pieces
       (All-weaker (λ p. (p.from ≤ v.sizes.slots) × (p.to ≤ v.sizes.slots)) (λ p. p.from ≤ v.sizes.slots) (λ p both. both.0) a.pieces pieces.owners)
       (λ b below. canonical_empty (between b s a.pieces) (pieces.canonical b s)
-      (λ x y. pieces.places b s x y below (omega (arith, low)) ∙ none_gained b s x y low none))
+      (λ x y. pieces.places b s x y below (omega (arith, low))
+      ∙ and_right (not (b == s)) _ (and_right (owner_has v b x y) _ (without_places a.stack s x y (omega (arith, low, slots_same)) idle.1)))))
+      (λ left. none_gained s a.pieces (left_out s low left)) (unready s none)
 
   -- each has what the plan says of its slot
   has_pieces : (i : ℕ) (d : ReadyView) → i < length made → ((get_or made i d).slot < v.sizes.slots)

@@ -31,7 +31,7 @@ use Rattle.lw_arrange.specs.declared.preparing.Becomes.TheVariants.{Stays, Close
 use Rattle.lw_arrange.specs.Arrangements.{ArrangementView}
 use Rattle.lw_arrange.specs.Prepared.{Created, created_by, created_live, becomes, with_bounds, without_layer, shown_at, cell_after, MayBecome, MayBe, MayOpen}
 use Rattle.lw_arrange.specs.Made.{IsPrepared}
-use Rattle.lw_arrange.specs.Areas.{StaysApart}
+use Rattle.lw_arrange.specs.Areas.{IsUnaffected}
 use Rattle.lw_arrange.specs.Filled.{keeps_if_live, counts_if_live, is_inside, gains, gains_some}
 use Rattle.lw_arrange.specs.Settled.{new_of, settled_new, settled_with, settled_by}
 use Rattle.lw_layer.proofs.PixelTests.{none_within}
@@ -187,8 +187,8 @@ untold : (q : Across) (k : LiveView) (o : Option Window) → o ≡ None
 untold q k None plain = let same : k.room - 0 ≡ k.room = omega arith in ap (λ n. record k { room = n; layer = record k.layer { window = None } }) same
 untold q k (Some w) plain = absurd (cc (plain))
 
--- A layer that is no window and stays where it is, apart from the area, and as active as it is, is left as it is.
-pub slot_left : (a : ArrangementView) (c : CellView) → IsSound (bare c).live → StaysApart a (bare c) → c.live.layer.window ≡ None
+-- A layer that is no window and stays where it is, neither loses nor gains a piece, and is as active as it was, is left as it is.
+pub slot_left : (a : ArrangementView) (c : CellView) → IsSound (bare c).live → IsUnaffected a (bare c) → c.live.layer.window ≡ None
     → c.live.active ≡ is_the a.stack.active c.number → IsLeft a c
 slot_left a c sound stays plain active =
     let r = c.live.bounds in
@@ -210,12 +210,10 @@ slot_left a c sound stays plain active =
       frame = λ framed. absurd (false≢true (sym (ap is_framed plain) ∙ framed));
     } in
     record {
-      live = stays.live;
       still = λ glyphs shelf.
           stays_settled glyphs a shelf c r w stays.live sound stays.bounds stays.same after
           ∙ ap (λ k. record c { live = k }) (untold q c.live c.live.layer.window plain);
-      bounds = stays.bounds;
-      apart = stays.apart;
+      unexchanged = stays.unexchanged;
     }
 
 -- what is ready for a slot by its bounds and its state

@@ -14,7 +14,6 @@ use Rattle.lw_layer.specs.View.{State, LiveView, CellView, keeps, with_layer, wi
 use Rattle.lw_layer.specs.View as view
 use Rattle.lw_layer.specs.Drafts.{IsLiveDraft, live_view, no_layer}
 use Rattle.lw_strips.specs.Strips.{StripView}
-use Rattle.lw_stack.specs.Stack.{bounds_at, LieApart}
 use Rattle.lw_layer.specs.Windows.{HasRoom}
 use Rattle.lw_frames.specs.Framing.{with_own_frame}
 use Rattle.lw_frames.specs.Telling.{IsDone, with_window_told}
@@ -24,7 +23,8 @@ use Rattle.lw_arrange.specs.declared.preparing.Becomes.{Becomes}
 use Rattle.lw_arrange.specs.declared.preparing.Becomes.TheVariants.{Stays, Closes, Opens, Changes}
 use Rattle.lw_arrange.specs.Arrangements.{ArrangementView}
 use Rattle.lw_arrange.specs.Prepared.{MayPrepare}
-use Rattle.lw_arrange.specs.Areas.{IsShownElsewhere}
+use Rattle.lw_arrange.specs.Areas.{IsShownElsewhere, IsShownUnlessExchanged}
+use Rattle.lw_arrange.specs.Pieces.{exchanges}
 use Rattle.lw_arrange.specs.Filled.{gains, gains_some, filled_layer, filled_by}
 use Rattle.lw_arrange.specs.Exchanged.{HasPieces}
 use Rattle.lw_arrange.specs.Settled.{across_arrangement, slot_settled}
@@ -61,20 +61,20 @@ slot_after glyphs a shelf c = slot_settled glyphs a (asked_hook shelf a.call c.n
 
 -- Words of this crate's private contracts.
 
--- a slot may be made ready for the arrangement: its cell may be prepared, and shows what the plan says outside the area, it isn't
--- to be the active window unless it is live, and a window's port has room for all messages that it may be due
+-- a slot may be made ready for the arrangement: its cell may be prepared; it shows what the plan says outside the area, and at every
+-- place if it neither loses nor gains a piece; it isn't to be the active window unless it is live, and a window's port has room for
+-- all messages that it may be due
 pub record MayBeReady (a : ArrangementView) (c : CellView) : Type 0 where
   pub prepare : MayPrepare a (bare c)
   pub elsewhere : IsShownElsewhere a (bare c)
+  pub unexchanged : IsShownUnlessExchanged a (bare c)
   pub idle : (c.state ≡ view.Live → ⊥) → is_the a.stack.active c.number ≡ false
   pub room : HasRoom 5 c
 
--- The arrangement leaves a live slot as it is: its layer stays where it is and has no place of the area.
+-- After the arrangement the slot is as it was, whatever glyphs and hooks there are, and it neither loses nor gains a piece.
 pub record IsLeft (a : ArrangementView) (c : CellView) : Type 0 where
-  pub live : c.state ≡ view.Live
   pub still : (glyphs : List (List ℕ)) (shelf : List (Option Hook)) → slot_after glyphs a shelf c ≡ c
-  pub bounds : bounds_at a.stack.bounds c.number ≡ Some c.live.bounds
-  pub apart : LieApart a.area c.live.bounds
+  pub unexchanged : exchanges c.number a.pieces ≡ false
 
 -- the hook that a slot's layer fills with, by what the slot holds before
 abbrev pub due_hook : ArrangementView → List (Option Hook) → CellView → State → Option Hook

@@ -108,8 +108,9 @@ fn plan_and_arrange<B: Backfill>(
     match plan_step(alloc, info, &looks, fresh, task, call)? {
         Step::Refused(reply) => Ok(reply),
         Step::Arranged(arrangement) => {
-            // Reading the sizes tells the proof what holds of the plan.
+            // Reading the sizes tells the proof what holds of the plan and of LayerInfo.
             let _ = arrangement.sizes();
+            let _ = info.sizes();
             reserve_all(alloc, info, slots)?;
             arrange(alloc, info, shelf, slots, assets, &arrangement)
         }

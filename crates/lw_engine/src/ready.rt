@@ -24,7 +24,7 @@ ghost use Rattle.lw_engine.specs.Slots.{IsReadyFor, IsLeft, MayBeReady};
 
 use crate::slot::Slot;
 use crate::window_after::{WindowAfter, follow, is_slot, window_after};
-use lw_arrange::{Arrangement, Becomes, Exchange, gained, prepare, stays_apart, turn_into};
+use lw_arrange::{Arrangement, Becomes, Exchange, gained, is_unaffected, prepare, turn_into};
 use lw_backfill::{Backfill, Shelf, Solid};
 use lw_calls::{Assets, Call};
 use lw_frames::paint_own_frame;
@@ -133,8 +133,8 @@ impl<B: Backfill> Slot<B> {
         })
     }
 
-    /// Whether the arrangement leaves the slot as it is, so that nothing has to be made ready: its layer is no window, stays
-    /// where it is, and doesn't meet the area. None of its rectangles is looked at, and no piece.
+    /// Whether the arrangement leaves the slot as it is, so that nothing has to be made ready: its layer is no window, is as active as
+    /// before, keeps its bounds, and neither loses nor gains a piece. No clip rectangle of it is looked at.
     pub(crate) fn is_left(&self, arrangement: &Arrangement) -> bool
         requires { MayBeReady arrangement.now self.now }
         ensures { result ≡ true → IsLeft arrangement.now self.now }
@@ -149,7 +149,7 @@ impl<B: Backfill> Slot<B> {
         if look.active != is_slot(arrangement.active(), cell.slot()) {
             return false;
         }
-        stays_apart(cell, arrangement)
+        is_unaffected(cell, arrangement)
     }
 
     // Whether the slot's layer has a hook, or is to take one from the shelf.

@@ -32,7 +32,7 @@ give_up_all-requires-clause-room g c =
     let P : List ReadyView → Type 0 =
     λ l. sum_by (λ q. length q.lost) l + length c.in_ok-next.next.exchange.lost.items ≤ c.reserve.new.self.spare
     in
-    subst P (sym taken) (room_for_all v a shelf slots made c.requires.cells c.requires.sizes c.requires.pieces c.requires.listed c.requires.area c.in_ok-ready.ensures c.in_ok-next.next.exchange.lost.items c.reserve.new.self.spare bare enough)
+    subst P (sym taken) (room_for_all v a shelf slots made c.requires.cells c.requires.sizes c.requires.pieces c.requires.listed c.in_ok-ready.ensures c.in_ok-next.next.exchange.lost.items c.reserve.new.self.spare bare enough)
 
 pub settle_all-requires-clause-settled : goal.settle_all-requires-clause-settled
 settle_all-requires-clause-settled g c =
@@ -46,7 +46,7 @@ settle_all-requires-clause-settled g c =
     let given : c.give_up_all.new.ready ≡ map given_up (with_taken shelf a.call made) = c.give_up_all.ensures.ready ∙ ap (map given_up) taken in
     let glyphs = c.args.assets.now.glyphs in
     let P : List ReadyView → Type 0 = λ l. AreSettled glyphs (slot_after glyphs a shelf) slots l in
-    (slot_after glyphs a shelf, subst P (sym given) (settled_then v a shelf slots made c.requires.cells c.requires.sizes c.requires.pieces c.requires.listed c.requires.area c.in_ok-ready.ensures glyphs))
+    (slot_after glyphs a shelf, subst P (sym given) (settled_then v a shelf slots made c.requires.cells c.requires.sizes c.requires.pieces c.requires.listed c.in_ok-ready.ensures glyphs))
 
 pub settle_all-requires-clause-once : goal.settle_all-requires-clause-once
 settle_all-requires-clause-once g c =
@@ -59,7 +59,7 @@ settle_all-requires-clause-once g c =
     c.take_hook.ensures.ready ∙ (ap (λ q. with_taken shelf q c.as_mut_slice-ready.result.now) c.call.ensures ∙ ap (λ l. with_taken shelf a.call l) c.as_mut_slice-ready.ensures.value) in
     let given : c.give_up_all.new.ready ≡ map given_up (with_taken shelf a.call made) = c.give_up_all.ensures.ready ∙ ap (map given_up) taken in
     let P : List ReadyView → Type 0 = λ l. (s : ℕ) → occurrences s (slots_of l) ≤ 1 in
-    subst P (sym given) (once_then v a shelf slots made c.requires.cells c.requires.sizes c.requires.pieces c.requires.listed c.requires.area c.in_ok-ready.ensures)
+    subst P (sym given) (once_then v a shelf slots made c.requires.cells c.requires.sizes c.requires.pieces c.requires.listed c.in_ok-ready.ensures)
 
 pub settle_all-requires-clause-pool : goal.settle_all-requires-clause-pool
 settle_all-requires-clause-pool g c =
@@ -79,12 +79,12 @@ settle_all-requires-clause-pool g c =
     let N : List ReadyView → Type 0 =
     λ l. copies_in r c.give_up_all.new.pool.strips ≡ sum_by (λ q. copies_in r q.lost) l + copies_in r c.in_ok-next.next.exchange.lost.items
     in
-    all_pieces v a shelf slots made c.requires.cells c.requires.sizes c.requires.pieces c.requires.listed c.requires.area c.in_ok-ready.ensures r c.in_ok-next.next.exchange.lost.items (copies_in r c.give_up_all.new.pool.strips) bare
+    all_pieces v a shelf slots made c.requires.cells c.requires.sizes c.requires.pieces c.requires.listed c.in_ok-ready.ensures r c.in_ok-next.next.exchange.lost.items (copies_in r c.give_up_all.new.pool.strips) bare
     (subst N taken (c.give_up_all.ensures.numbers r))
     in
     λ r.
     let P : List ReadyView → Type 0 = λ l. sum_by (λ q. copies r q.claims) l ≤ copies_in r c.give_up_all.new.pool.strips in
-    subst P (sym given) (enough_pieces v a shelf slots made c.requires.cells c.requires.sizes c.requires.pieces c.requires.listed c.requires.area c.in_ok-ready.ensures r (copies_in r c.give_up_all.new.pool.strips) (pool r))
+    subst P (sym given) (enough_pieces v a shelf slots made c.requires.cells c.requires.sizes c.requires.pieces c.requires.listed c.in_ok-ready.ensures r (copies_in r c.give_up_all.new.pool.strips) (pool r))
 
 pub commit_last-requires-clause-stack : goal.commit_last-requires-clause-stack
 commit_last-requires-clause-stack g c =
@@ -122,14 +122,14 @@ commit_last-requires-clause-last g c =
     let N : List ReadyView → Type 0 =
     λ l. copies_in r c.give_up_all.new.pool.strips ≡ sum_by (λ q. copies_in r q.lost) l + copies_in r c.in_ok-next.next.exchange.lost.items
     in
-    all_pieces v a shelf slots made c.requires.cells c.requires.sizes c.requires.pieces c.requires.listed c.requires.area c.in_ok-ready.ensures r c.in_ok-next.next.exchange.lost.items (copies_in r c.give_up_all.new.pool.strips) bare
+    all_pieces v a shelf slots made c.requires.cells c.requires.sizes c.requires.pieces c.requires.listed c.in_ok-ready.ensures r c.in_ok-next.next.exchange.lost.items (copies_in r c.give_up_all.new.pool.strips) bare
     (subst N taken (c.give_up_all.ensures.numbers r))
     in
     λ r.
     let P : List ReadyView → Type 0 =
     λ l. copies_in r c.give_up_all.new.pool.strips ≡ copies_in r c.settle_all.new.pool.strips + sum_by (λ q. copies r q.claims) l
     in
-    last_pieces v a shelf slots made c.requires.cells c.requires.sizes c.requires.pieces c.requires.listed c.requires.area c.in_ok-ready.ensures r (copies_in r c.give_up_all.new.pool.strips) (copies_in r c.settle_all.new.pool.strips) (pool r)
+    last_pieces v a shelf slots made c.requires.cells c.requires.sizes c.requires.pieces c.requires.listed c.in_ok-ready.ensures r (copies_in r c.give_up_all.new.pool.strips) (copies_in r c.settle_all.new.pool.strips) (pool r)
     (subst P given (c.settle_all.ensures.numbers r))
     ∙ ap (λ l. gained_by r v.sizes.slots l) (sym c.pieces-pieces.ensures)
 
@@ -151,5 +151,5 @@ returns-clause-cells g c =
     let glyphs = c.args.assets.now.glyphs in
     let P : List ReadyView → Type 0 = λ l. AreSettled glyphs (slot_after glyphs a shelf) slots l in
     let Q : List ReadyView → Type 0 = λ l. AreChangedAt (slots_of l) (slot_after glyphs a shelf) slots c.settle_all.new.slots in
-    changed_then v a shelf slots made c.requires.cells c.requires.sizes c.requires.pieces c.requires.listed c.requires.area c.in_ok-ready.ensures glyphs c.settle_all.new.slots
-    (subst Q given (c.settle_all.ensures.settled (slot_after glyphs a shelf) (subst P (sym given) (settled_then v a shelf slots made c.requires.cells c.requires.sizes c.requires.pieces c.requires.listed c.requires.area c.in_ok-ready.ensures glyphs))))
+    changed_then v a shelf slots made c.requires.cells c.requires.sizes c.requires.pieces c.requires.listed c.in_ok-ready.ensures glyphs c.settle_all.new.slots
+    (subst Q given (c.settle_all.ensures.settled (slot_after glyphs a shelf) (subst P (sym given) (settled_then v a shelf slots made c.requires.cells c.requires.sizes c.requires.pieces c.requires.listed c.in_ok-ready.ensures glyphs))))

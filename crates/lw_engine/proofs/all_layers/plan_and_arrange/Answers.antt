@@ -67,11 +67,14 @@ arrange-requires-clause-may g c =
     let L : List (Option Look) → Type 0 = λ l. AreLooks cells l in
     let truth : L c.deref.result.now = subst L (sym c.deref.ensures.value) c.in_ok-looks.ensures in
     let A : Step → Type 0 = λ q. StepHasArea v q in
+    let B : Step → Type 0 = λ q. StepHasPieces v q in
+    let K : Step → Type 0 = λ q. KeepsSizes v.sizes q in
     cells_may d v roomy c.args.task c.args.call.now c.in-Arranged.arrangement (of_desk_roomed v cells roomy d before c.requires.cells c.requires.desk.1)
     (numbered_roomed v.sizes.slots cells roomy before c.requires.cells)
     (plan_done d v cells c.deref.result.now c.is_fresh-fresh.result c.args.task c.args.call.now c.in_ok-reply.field-0 c.in-Arranged.arrangement c.requires.desk.1 c.requires.cells truth c.is_fresh-fresh.ensures
     c.requires.all c.requires.fits c.in_ok-reply.ensures.step c.in_ok-reply.ensures.sizes c.in-Arranged.is c.sizes.ensures.planned)
-    (subst A c.in-Arranged.is c.in_ok-reply.ensures.area)
+    (subst A c.in-Arranged.is c.in_ok-reply.ensures.area) (subst B c.in-Arranged.is c.in_ok-reply.ensures.pieces)
+    c.sizes-in-Arranged.ensures.stack c.sizes.ensures.planned.stack (subst K c.in-Arranged.is c.in_ok-reply.ensures.sizes)
     (λ s low.
     let inside : s < length cells = omega (arith, low, same_length cells roomy before) in
     sound_roomed (cell_at cells s) (cell_at roomy s) (same_cell cells roomy s before inside) (truth.each s inside).sound)

@@ -6,7 +6,7 @@ use Rattle.lw_machine.specs.Layer.{Window}
 use Rattle.lw_layer.specs.View.{CellView, hooked}
 use Rattle.lw_layer.specs.Looks.{owner_of}
 use Rattle.lw_layer.specs.StandsFor.{IsSound}
-use Rattle.lw_arrange.specs.Areas.{IsShownElsewhere, StaysApart}
+use Rattle.lw_arrange.specs.Areas.{IsShownUnlessExchanged, IsUnaffected}
 use Rattle.lw_engine.specs.Slots.{bare}
 use Rattle.lw_engine.proofs.SettlingLaws.{bare_cell, slot_left}
 use Rattle.lw_engine.proofs.WindowLaws.{look_of}
@@ -23,14 +23,14 @@ same_flag true false is = is
 same_flag false true is = sym is
 same_flag false false is = refl
 
-pub stays_apart-requires : goal.stays_apart-requires
-stays_apart-requires g c =
+pub is_unaffected-requires : goal.is_unaffected-requires
+is_unaffected-requires g c =
     let cell = c.deref-cell.result.now in
     let h = option_map g.B.Backfill.hook c.self.inside.held in
     let seen : hooked h cell ≡ c.args.self.now = ap (hooked h) c.deref-cell.ensures ∙ c.self.view_is in
     let same : cell ≡ bare c.args.self.now = bare_cell cell c.look.ensures.sound c.look.ensures.idle ∙ ap bare seen in
-    let P : CellView → Type 0 = λ v. IsShownElsewhere c.args.arrangement.now v in
-    subst P (sym same) c.requires.elsewhere
+    let P : CellView → Type 0 = λ v. IsShownUnlessExchanged c.args.arrangement.now v in
+    subst P (sym same) c.requires.unexchanged
 
 pub returns : goal.returns
 returns g c =
@@ -41,12 +41,12 @@ returns g c =
     let h = option_map g.B.Backfill.hook c.self.inside.held in
     let seen : hooked h cell ≡ s = ap (hooked h) c.deref-cell.ensures ∙ c.self.view_is in
     let same : cell ≡ bare s = bare_cell cell c.look.ensures.sound c.look.ensures.idle ∙ ap bare seen in
-    let stays = c.stays_apart.ensures yes in
+    let stays = c.is_unaffected.ensures.0 yes in
     let look = look_of cell c.in-Some.look stays.live c.in-Some.ensures.look in
     let Sound : CellView → Type 0 = λ v. IsSound v.live in
     let Plain : CellView → Type 0 = λ v. v.live.layer.window ≡ None in
     let Active : CellView → Type 0 = λ v. v.live.active ≡ is_the a.stack.active v.number in
-    slot_left a s (subst Sound same (c.look.ensures.sound stays.live)) (subst (StaysApart a) same stays)
+    slot_left a s (subst Sound same (c.look.ensures.sound stays.live)) (subst (IsUnaffected a) same stays)
     (subst Plain same (plain cell.live.layer.window c.in-Some.look.owner look.owner (sym c.is_some.ensures ∙ c.if-is_some.false)))
     (subst Active same
     (sym look.active
