@@ -12,6 +12,7 @@ use crate::desk::Desk;
 use crate::gate::Gate;
 use crate::held::{Layer, LayerInfo};
 use crate::holder::Holder;
+use crate::locking::lock;
 use crate::opening::Opening;
 use crate::pass::Pass;
 use lw_calls::{Call, Role};
@@ -58,7 +59,7 @@ impl<E: Engine, N: Opening> Desk<E, N> {
         ensures { CalledEach N.desk AllSlots pass.old pass.new calls.now answers.old.items answers.new.items result }
     {
         let mut cells = Vec::with_capacity(alloc, self.layers.len())?;
-        let mut guard = self.info.lock(rt);
+        let mut guard = lock(rt, &self.info);
         let place = &mut *guard;
         let Some(info) = place.held.take() else {
             unreachable!();
@@ -109,7 +110,7 @@ impl<E: Engine, N: Opening> Desk<E, N> {
                 .steps
                 .each_on_all(alloc, gate, info, all, holder, calls, answers);
         }
-        let mut guard = self.layers[next].lock(rt);
+        let mut guard = lock(rt, &self.layers[next]);
         let place = &mut *guard;
         let Some(layer) = place.held.take() else {
             unreachable!();

@@ -14,6 +14,7 @@ use crate::answer::Answer;
 use crate::desk::Desk;
 use crate::gate::{Gate, Spot};
 use crate::held::{Layer, LayerInfo, Place};
+use crate::locking::lock;
 use crate::opening::Opening;
 use crate::pass::Pass;
 use lw_calls::{Call, CallClass, Role, class_of};
@@ -86,7 +87,7 @@ impl<E: Engine, N: Opening> Desk<E, N> {
         ensures task { pass.new.task ≡ pass.old.task }
         ensures done { Done N.desk (Task pass.old.task ∷ []) pass.old.task pass.old.history pass.new.history call.now result.reply result.ticket }
     {
-        let mut guard = self.info.lock(rt);
+        let mut guard = lock(rt, &self.info);
         gate.pass(pass.task(), pass.made(), Spot::Under);
         let place = &mut *guard;
         let Some(info) = place.held.take() else {
@@ -119,7 +120,7 @@ impl<E: Engine, N: Opening> Desk<E, N> {
         requires may { MayCall N.desk pass.old.task pass.old.history call.now }
         ensures { Called N.desk pass.old pass.new call.now result }
     {
-        let mut guard = self.layers[slot as usize].lock(rt);
+        let mut guard = lock(rt, &self.layers[slot as usize]);
         gate.pass(pass.task(), pass.made(), Spot::Under);
         let place = &mut *guard;
         let Some(layer) = place.held.take() else {
@@ -165,13 +166,13 @@ impl<E: Engine, N: Opening> Desk<E, N> {
         ensures { Called N.desk pass.old pass.new call.now result }
     {
         if source < slot {
-            let mut from = self.layers[source as usize].lock(rt);
-            let mut into = self.layers[slot as usize].lock(rt);
+            let mut from = lock(rt, &self.layers[source as usize]);
+            let mut into = lock(rt, &self.layers[slot as usize]);
             gate.pass(pass.task(), pass.made(), Spot::Under);
             return self.in_layers(&mut from, &mut into, pass, source, slot, call);
         }
-        let mut into = self.layers[slot as usize].lock(rt);
-        let mut from = self.layers[source as usize].lock(rt);
+        let mut into = lock(rt, &self.layers[slot as usize]);
+        let mut from = lock(rt, &self.layers[source as usize]);
         gate.pass(pass.task(), pass.made(), Spot::Under);
         self.in_layers(&mut from, &mut into, pass, source, slot, call)
     }

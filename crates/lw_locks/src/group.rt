@@ -14,6 +14,7 @@ use crate::answer::Answer;
 use crate::desk::Desk;
 use crate::gate::{Gate, Spot};
 use crate::held::Layer;
+use crate::locking::lock;
 use crate::opening::Opening;
 use crate::pass::Pass;
 use lw_calls::{Call, Hold, Role};
@@ -92,7 +93,7 @@ impl<E: Engine, N: Opening> Desk<E, N> {
         requires space { vec_len answers.old + length calls.now ≤ vec_capacity answers.old }
         ensures { CalledEach N.desk (OneSlot slot) pass.old pass.new calls.now answers.old.items answers.new.items result }
     {
-        let mut guard = self.layers[slot as usize].lock(rt);
+        let mut guard = lock(rt, &self.layers[slot as usize]);
         let place = &mut *guard;
         let Some(layer) = place.held.take() else {
             unreachable!();

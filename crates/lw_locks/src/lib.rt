@@ -14,6 +14,7 @@ mod group;
 mod held;
 mod holder;
 mod laws;
+mod locking;
 mod opening;
 mod pass;
 mod start;
