@@ -17,6 +17,7 @@ use Rattle.lw_strips.specs.declared.piece.Piece.{Piece}
 use Rattle.lw_stack.specs.Stack.{Stack, top_in, is_top_in}
 use Rattle.lw_stack.proofs.FirstLaws.{not_top, top_off_screen}
 use Rattle.lw_arrange.specs.Pieces.{owner_has, between, exchanges, ArePieces}
+use Rattle.lw_arrange.proofs.SoundLaws.{eqb_swapped}
 
 -- no piece is one that the owner loses or gains
 none_of : (test : Piece → Bool) (k : ℕ) (pieces : List Piece) → ((p : Piece) → (p.from == k || p.to == k) ≡ false → test p ≡ false)
@@ -125,15 +126,8 @@ same_top v w pieces s x y same many many_after all low none =
     swap t false true = refl
     swap t false false = refl
 
-    eqb_swap : (a b : ℕ) → (a == b) ≡ (b == a)
-    eqb_swap a b = by_test (a == b) refl
-      where
-        by_test : (t : Bool) → (a == b) ≡ t → t ≡ (b == a)
-        by_test true e = sym (eq-eqb b a (sym (eqb-true a b e)))
-        by_test false e = sym (ne_eqb b a (λ at. eqb-false a b e (sym at)))
-
     turned : (b : ℕ) → covers (between b s pieces) x y ≡ (not (b == s) && (owner_has v b x y && owner_has w s x y))
         → covers (between b s pieces) x y ≡ false → (not (s == b) && (owner_has w s x y && owner_has v b x y)) ≡ false
     turned b is off =
         swap (s == b) (owner_has w s x y) (owner_has v b x y)
-        ∙ (ap (λ t. not t && (owner_has v b x y && owner_has w s x y)) (eqb_swap s b) ∙ (sym is ∙ off))
+        ∙ (ap (λ t. not t && (owner_has v b x y && owner_has w s x y)) (eqb_swapped s b (b == s) refl) ∙ (sym is ∙ off))

@@ -156,7 +156,7 @@ count_at s t us b old n same other = by_test (t == s) refl
     by_test false e = other e
 
 -- equality of numbers is the same both ways
-eqb_swapped : (s t : ℕ) (b : Bool) → (t == s) ≡ b → (s == t) ≡ b
+pub eqb_swapped : (s t : ℕ) (b : Bool) → (t == s) ≡ b → (s == t) ≡ b
 eqb_swapped s t true e = eq-eqb s t (sym (eqb-true t s e))
 eqb_swapped s t false e = by_test (s == t) refl
   where

@@ -6,8 +6,9 @@ ghost use Rattle.lw_machine.specs.Layer.{is_framed};
 ghost use Rattle.lw_layer.specs.Pieces.{HasFrameRoom, IsDamageOf};
 ghost use Rattle.lw_reveal.specs.Changed.{carried_to, MayHave};
 ghost use Rattle.lw_reveal.specs.Counted.{AreCounted};
-ghost use Rattle.lw_reveal.specs.Gained.{AreLeft, AreOf};
+ghost use Rattle.lw_reveal.specs.Gained.{AreLeft, AreOf, StaysUndamaged};
 
+use lw_calls::Kind;
 use lw_damage::Damage;
 use lw_layer::{Layer, inner_rectangle, kept_region};
 use lw_region::{Rect, Region, clear_region};
@@ -25,11 +26,37 @@ pub(crate) fn damage_after(
     ensures { IfOk result (λ d. IsDamageOf (carried_to bounds.now visible.now layer.now) d) }
 {
     let look = layer.look();
+    let inner = inner_rectangle(look.kind, look.framed, bounds);
+    if stays_undamaged(layer, bounds) {
+        return Ok(undamaged(alloc, inner, look.updating));
+    }
     let was = counted_region(alloc, layer, bounds)?;
     let kept = kept_region(alloc, look.kind, bounds, visible.rects())?;
     let due = left_region(alloc, was, layer.damage().region(), kept)?;
-    let inner = inner_rectangle(look.kind, look.framed, bounds);
     Damage::of_region(alloc, inner, &due, look.updating)
+}
+
+// Whether the layer is a smart one that isn't damaged and keeps its size: it keeps the same pixels then, and has the same inner
+// rectangle, so that nothing is due and no region is needed to tell.
+fn stays_undamaged(layer: &Layer, bounds: &Rect) -> bool
+    ensures { IsTrue result → StaysUndamaged layer.now bounds.now }
+{
+    let look = layer.look();
+    look.kind == Kind::Smart
+        && bounds.width() == look.bounds.width()
+        && bounds.height() == look.bounds.height()
+        && layer.damage().region().rects().is_empty()
+}
+
+// No damage, with an update on or not. It takes no memory, where `Damage::of_region` of an empty region takes some for a while.
+fn undamaged(alloc: Global, inner: Option<Rect>, updating: bool) -> Damage
+    ensures { result ≡ record { inner = inner; rects = []; updating = updating } }
+{
+    let mut damage = Damage::new(alloc, inner);
+    if updating {
+        damage.begin();
+    }
+    damage
 }
 
 /// The pixels that the live layer keeps and that count as kept once it has these bounds, in layer coordinates: in a framed window
