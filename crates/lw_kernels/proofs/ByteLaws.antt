@@ -125,7 +125,7 @@ pub bit_at_cut : (k n i : ℕ) → i < k → bit_at (n % 2 ^ k) i ≡ bit_at n i
 bit_at_cut k n i low = sym (bit_at_cat_low (n / 2 ^ k) k (n % 2 ^ k) i low) ∙ ap (λ m. bit_at m i) (div-add-mod' n (2 ^ k))
 
 -- a number of so many bits that is shifted to the left has no bits below the shift, and above it those from its lowest on
-bit_at_shl : (k a n i : ℕ) → i < k → bit_at ((a * 2 ^ n) % 2 ^ k) i ≡ (if nat_lt i n then 0 else bit_at a (i - n))
+pub bit_at_shl : (k a n i : ℕ) → i < k → bit_at ((a * 2 ^ n) % 2 ^ k) i ≡ (if nat_lt i n then 0 else bit_at a (i - n))
 bit_at_shl k a n i low =
     let whole : ℕ = a * 2 ^ n in
     let same : whole ≡ whole + 0 = omega arith in

@@ -38,17 +38,16 @@ joined_bit true from mid end x two one new second old p q a b same =
     (cases_lt x mid)
 
 -- one more column is done
-pub rows_joined : (step from mid end first last : ℕ) (one two : List ℕ) (test : ℕ → Bool) (new second : ℕ → ℕ → ℕ) (old : ℕ → ℕ) → from ≤ mid → mid ≤ end → first ≡ mid → last ≡ end → RowsDone step from mid one test new old → RowsDone step first last two test second (λ p. row_bit one p) → ((y x : ℕ) → mid ≤ x → x < end → second y x ≡ new y x) → RowsDone step from end two test new old
-rows_joined step from mid end first last one two test new second old p q begins ends a b same = λ y x low.
-    joined_bit (test y) from mid end x (row_bit two (place_in step y x)) (row_bit one (place_in step y x)) (new y x) (second y x) (old (place_in step y x)) p q (a y x low)
-    (b y x low ∙ (ap (λ n. if test y && is_between n last x then second y x else row_bit one (place_in step y x)) begins ∙
-    ap (λ n. if test y && is_between mid n x then second y x else row_bit one (place_in step y x)) ends))
-    (same y x)
+pub rows_joined : (step from mid end : ℕ) (one two : List ℕ) (test : ℕ → Bool) (new second : ℕ → ℕ → ℕ) (old : ℕ → ℕ) → from ≤ mid → mid ≤ end → RowsDone step from mid one test new old → RowsDone step mid end two test second (λ p. row_bit one p) → ((y x : ℕ) → mid ≤ x → second y x ≡ new y x) → RowsDone step from end two test new old
+rows_joined step from mid end one two test new second old p q a b same = λ y x low.
+    joined_bit (test y) from mid end x (row_bit two (place_in step y x)) (row_bit one (place_in step y x)) (new y x) (second y x) (old (place_in step y x)) p q (a y x low) (b y x low)
+    (λ late _. same y x late)
 
--- columns with another name for their end
-pub rows_to : (step from end stop : ℕ) (bytes : List ℕ) (test : ℕ → Bool) (new : ℕ → ℕ → ℕ) (old : ℕ → ℕ) → end ≡ stop → RowsDone step from end bytes test new old → RowsDone step from stop bytes test new old
-rows_to step from end stop bytes test new old same done = λ y x low.
-    done y x low ∙ ap (λ n. if test y && is_between from n x then new y x else old (place_in step y x)) same
+-- columns with other names for their bits
+pub rows_placed : (step first last from end : ℕ) (bytes : List ℕ) (test : ℕ → Bool) (new : ℕ → ℕ → ℕ) (old : ℕ → ℕ) → first ≡ from → last ≡ end → RowsDone step first last bytes test new old → RowsDone step from end bytes test new old
+rows_placed step first last from end bytes test new old begins ends done = λ y x low.
+    done y x low ∙ (ap (λ n. if test y && is_between n last x then new y x else old (place_in step y x)) begins ∙
+    ap (λ n. if test y && is_between from n x then new y x else old (place_in step y x)) ends)
 
 -- one more row of a column is done
 pub row_copied : (to_step source_step at lead start place count k : ℕ) (one two source : List ℕ) (old : ℕ → ℕ) → 8 * at + lead + count ≤ 8 * to_step

@@ -4,4 +4,5 @@ pub mod CopiedBytes
 pub mod PairLaws
 pub mod SpanLaws
 pub mod WordLaws
+pub mod WideLaws
 pub mod ColumnLaws

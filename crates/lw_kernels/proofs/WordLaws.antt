@@ -45,7 +45,7 @@ low_byte n (suc (suc (suc (suc (suc (suc (suc zero))))))) low = refl
 low_byte n (suc (suc (suc (suc (suc (suc (suc (suc k)))))))) low = absurd (omega arith)
 
 -- the bytes of a word, the lowest first, have its bits at their spots
-low_bit : (n j : ℕ) → j < 64 → row_bit (to_le_bytes w64 n) j ≡ bit_at n (spot j)
+pub low_bit : (n j : ℕ) → j < 64 → row_bit (to_le_bytes w64 n) j ≡ bit_at n (spot j)
 unfolding row_bit
 low_bit n j low =
     let k : ℕ = j / 8 in

@@ -1,3 +1,4 @@
 pub mod Kernel
 pub mod Spans
 pub mod Words
+pub mod Wide

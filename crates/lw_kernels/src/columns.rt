@@ -7,7 +7,11 @@ ghost use Rattle.lw_kernels.specs.Kernel.{is_between, place_in};
 ghost use Rattle.lw_kernels.specs.Words.{IsColumn};
 
 use crate::ways::is_copy;
+use crate::wide::{copy_wide, wide_column_of};
 use crate::words::{put_word, turned, word_at, word_mask};
+
+// So many bits lie in one word of eight bytes on both sides, wherever in a byte they begin.
+const WORD_BITS: u32 = 57;
 
 // Some bits of each row, in words of `size` bytes: `count` bits from bit `lead` past byte `at` of a row on, which `mask` names,
 // and as many from bit `place` past byte `start` of the source's row on. A word of the source that is turned by `turn` bits has
@@ -42,15 +46,14 @@ pub(crate) fn goes_by_columns(
     let most = if to_bit % 8 == source_bit % 8 {
         64 * (1 + (rows / 4).min(7))
     } else {
-        57 * (2 + (rows / 4).min(7))
+        WORD_BITS * (2 + (rows / 4).min(7))
     };
     is_copy(minterm) && to_step >= 2 && source_step >= 2 && count <= most
 }
 
 // Copies `count` bits from bit `source_bit` of each row of the source to the row of the same number, from its bit `to_bit` on.
-// Each size of words has code of its own. It is a call of its own, so that its loops and those of the other ways keep their
-// registers.
-#[inline(never)]
+// Bits that are moved across bytes go by two words at once, where that pays for itself: in a few rows at least.
+#[inline(always)]
 pub(crate) fn copy_columns(
     to: &mut [u8],
     to_step: usize,
@@ -63,6 +66,147 @@ pub(crate) fn copy_columns(
 )
     requires wide { 2 ≤ to_step }
     requires source_wide { 2 ≤ source_step }
+    requires to_inside { to_bit + count ≤ 8 * to_step }
+    requires to_all { rows * to_step ≤ length to.old }
+    requires source_inside { source_bit + count ≤ 8 * source_step }
+    requires source_all { rows * source_step ≤ length source.now }
+    ensures { (y x : ℕ) → x < 8 * to_step → row_bit to.new (place_in to_step y x) ≡
+        (if nat_lt y rows && is_between to_bit (to_bit + count) x
+        then row_bit source.now (place_in source_step y (source_bit + (x - to_bit)))
+        else row_bit to.old (place_in to_step y x)) }
+{
+    let (to_place, source_place) = (to_bit as usize, source_bit as usize);
+    let bits = count as usize;
+    let turned = to_bit % 8 != source_bit % 8;
+    let starts = source_bit >= to_bit % 8 || count > 2 * WORD_BITS;
+    if count > WORD_BITS && rows >= 16 && to_step >= 16 && source_step > 16 && turned && starts {
+        copy_two_words(
+            to,
+            to_step,
+            to_place,
+            source,
+            source_step,
+            source_place,
+            rows,
+            bits,
+        );
+    } else {
+        copy_words(
+            to,
+            to_step,
+            to_place,
+            source,
+            source_step,
+            source_place,
+            rows,
+            bits,
+        );
+    }
+}
+
+// As `copy_columns`, by two words at once wherever they lie in the rows.
+#[inline(never)]
+fn copy_two_words(
+    to: &mut [u8],
+    to_step: usize,
+    to_bit: usize,
+    source: &[u8],
+    source_step: usize,
+    source_bit: usize,
+    rows: u32,
+    count: usize,
+)
+    requires wide { 16 ≤ to_step }
+    requires source_wide { 16 < source_step }
+    requires near { to_bit + count < 2 ^ 40 }
+    requires near_source { source_bit + count < 2 ^ 40 }
+    requires to_inside { to_bit + count ≤ 8 * to_step }
+    requires to_all { rows * to_step ≤ length to.old }
+    requires source_inside { source_bit + count ≤ 8 * source_step }
+    requires source_all { rows * source_step ≤ length source.now }
+    ensures { (y x : ℕ) → x < 8 * to_step → row_bit to.new (place_in to_step y x) ≡
+        (if nat_lt y rows && is_between to_bit (to_bit + count) x
+        then row_bit source.now (place_in source_step y (source_bit + (x - to_bit)))
+        else row_bit to.old (place_in to_step y x)) }
+{
+    let mut done = 0;
+    while done < count {
+        done += copy_first(
+            to,
+            to_step,
+            to_bit + done,
+            source,
+            source_step,
+            source_bit + done,
+            rows,
+            count - done,
+        );
+    }
+}
+
+// Copies the first ones of so many bits of each row, and says how many.
+#[inline(always)]
+fn copy_first(
+    to: &mut [u8],
+    to_step: usize,
+    to_bit: usize,
+    source: &[u8],
+    source_step: usize,
+    source_bit: usize,
+    rows: u32,
+    count: usize,
+) -> usize
+    requires some { 0 < count }
+    requires wide { 16 ≤ to_step }
+    requires source_wide { 16 < source_step }
+    requires near { to_bit + count < 2 ^ 40 }
+    requires near_source { source_bit + count < 2 ^ 40 }
+    requires to_inside { to_bit + count ≤ 8 * to_step }
+    requires to_all { rows * to_step ≤ length to.old }
+    requires source_inside { source_bit + count ≤ 8 * source_step }
+    requires source_all { rows * source_step ≤ length source.now }
+    ensures done { 0 < result }
+    ensures few { result ≤ count }
+    ensures copied { (y x : ℕ) → x < 8 * to_step → row_bit to.new (place_in to_step y x) ≡
+        (if nat_lt y rows && is_between to_bit (to_bit + result) x
+        then row_bit source.now (place_in source_step y (source_bit + (x - to_bit)))
+        else row_bit to.old (place_in to_step y x)) }
+{
+    if let Some(column) = wide_column_of(to_step, to_bit, source_step, source_bit, count) {
+        copy_wide(to, to_step, source, source_step, rows, column);
+        return column.count;
+    }
+    let part = count.min(WORD_BITS as usize);
+    copy_words(
+        to,
+        to_step,
+        to_bit,
+        source,
+        source_step,
+        source_bit,
+        rows,
+        part,
+    );
+    part
+}
+
+// As `copy_columns`, one word at a time. Each size of words has code of its own. It is a call of its own, so that its loops and
+// those of the other ways keep their registers.
+#[inline(never)]
+fn copy_words(
+    to: &mut [u8],
+    to_step: usize,
+    to_bit: usize,
+    source: &[u8],
+    source_step: usize,
+    source_bit: usize,
+    rows: u32,
+    count: usize,
+)
+    requires wide { 2 ≤ to_step }
+    requires source_wide { 2 ≤ source_step }
+    requires near { to_bit + count < 2 ^ 40 }
+    requires near_source { source_bit + count < 2 ^ 40 }
     requires to_inside { to_bit + count ≤ 8 * to_step }
     requires to_all { rows * to_step ≤ length to.old }
     requires source_inside { source_bit + count ≤ 8 * source_step }
@@ -112,23 +256,25 @@ pub(crate) fn copy_columns(
     }
 }
 
-// As `copy_columns`, in words of `size` bytes.
+// As `copy_words`, in words of `size` bytes.
 #[inline(always)]
 fn copy_by_words(
     to: &mut [u8],
     to_step: usize,
-    to_bit: u32,
+    to_bit: usize,
     source: &[u8],
     source_step: usize,
-    source_bit: u32,
+    source_bit: usize,
     rows: u32,
-    count: u32,
+    count: usize,
     size: usize,
 )
     requires some { 0 < size }
     requires small { size ≤ 8 }
     requires wide { size ≤ to_step }
     requires source_wide { size ≤ source_step }
+    requires near { to_bit + count < 2 ^ 40 }
+    requires near_source { source_bit + count < 2 ^ 40 }
     requires to_inside { to_bit + count ≤ 8 * to_step }
     requires to_all { rows * to_step ≤ length to.old }
     requires source_inside { source_bit + count ≤ 8 * source_step }
@@ -138,16 +284,15 @@ fn copy_by_words(
         then row_bit source.now (place_in source_step y (source_bit + (x - to_bit)))
         else row_bit to.old (place_in to_step y x)) }
 {
-    let bits = count as usize;
     let mut done = 0;
-    while done < bits {
+    while done < count {
         let column = column_of(
             size,
             to_step,
-            to_bit as usize + done,
+            to_bit + done,
             source_step,
-            source_bit as usize + done,
-            bits - done,
+            source_bit + done,
+            count - done,
         );
         copy_column(to, to_step, source, source_step, rows, column);
         done += column.count;

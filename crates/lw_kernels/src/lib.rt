@@ -13,6 +13,7 @@ mod moving;
 mod pairs;
 mod spans;
 mod ways;
+mod wide;
 mod within;
 mod words;
 

@@ -23,7 +23,7 @@ pub(crate) fn word_at(row: &[u8], at: usize, size: usize) -> u64
 
 // Eight bytes as a word.
 #[inline(always)]
-fn word_of(bytes: [u8; 8]) -> u64
+pub(crate) fn word_of(bytes: [u8; 8]) -> u64
     ensures { (j : ℕ) → j < 64 → bit_at result (spot j) ≡ row_bit bytes j }
 {
     u64::from_le_bytes(bytes)
@@ -41,6 +41,18 @@ pub(crate) fn put_word(to: &mut [u8], at: usize, word: u64, size: usize)
     for index in 0..size {
         to[at + index] = ((word >> (8 * index)) & 0xff) as u8;
     }
+}
+
+// As `put_word`, all eight bytes. The compiler takes two of them that follow one another for one store of 16 bytes, which it doesn't
+// where they are shifted out of the word.
+#[inline(always)]
+pub(crate) fn put_whole(to: &mut [u8], at: usize, word: u64)
+    requires { at + 8 ≤ length to.old }
+    ensures { (x : ℕ) → row_bit to.new x ≡ (if is_between (8 * at) (8 * (at + 8)) x
+        then bit_at word (spot (x - 8 * at))
+        else row_bit to.old x) }
+{
+    copy_plain(to, at, &word.to_le_bytes(), 0, 8);
 }
 
 // The word that has for each bit the one that stands so many bits behind it; those at the end have the first ones. Where it is
