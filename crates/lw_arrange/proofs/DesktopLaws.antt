@@ -1,14 +1,13 @@
 -- The desktop after an arrangement: what stays of it, and what is put together anew.
-use Rattle.std.proofs.Common.{◌≡◌, ℕ, zero, suc, ◌+◌, ◌<◌, ◌==◌, Bool, true, false, not, ◌&&◌, ◌||◌, List, [], ◌∷◌, ◌++◌, map, take, length, get_or, ℤ, ◌≤ℤ◌, Option, Some, None, refl, sym, ap, subst, ◌∙◌, ◌⊎◌, ◌≢◌, cond, inl, inr, arith}
+use Rattle.std.proofs.Common.{◌≡◌, ℕ, zero, suc, ◌+◌, ◌<◌, ◌==◌, Bool, true, false, not, ◌&&◌, ◌||◌, List, [], ◌∷◌, ◌++◌, map, take, length, get_or, ℤ, Option, Some, None, refl, sym, ap, subst, ◌∙◌, ◌⊎◌, ◌≢◌, cond, inl, inr, arith}
 use Rattle.std.specs.Prelude.{if◌then◌else◌}
 use Rattle.std.specs.List.{All, find}
 use Rattle.std.specs.Option.{is_some}
-use Rattle.std.proofs.lemmas.Bool.{false≢true, and_parts, and_from, and_right, eqb-true, eq-eqb, ne_eqb, cases_eq}
-use Rattle.std.proofs.lemmas.Int.{ints}
+use Rattle.std.proofs.lemmas.Bool.{false≢true, and_parts, and_right, eqb-true, eq-eqb, ne_eqb, cases_eq}
 use Rattle.std.proofs.Math.Bool.{and_comm, or-false}
 use Rattle.std.proofs.lemmas.List.{map-append, take_more}
 use Rattle.std.proofs.lemmas.List.Elements.{All-nil, All-append, All-map, All-push}
-use Rattle.lw_region.specs.Rectangle.{Rectangle, within, has_pixel}
+use Rattle.lw_region.specs.Rectangle.{Rectangle, has_pixel}
 use Rattle.lw_region.specs.Bands.{covers}
 use Rattle.lw_region.specs.Banded.{IsCanonical}
 use Rattle.lw_region.proofs.Canonical.{covers_nil, covers_cons, covers_append}
@@ -27,20 +26,6 @@ use Rattle.lw_machine.specs.Screen.{bounds_have, screen_bounds}
 use Rattle.lw_machine.specs.Reveal.{has_bounds}
 use Rattle.lw_calls.specs.Orders.{occurrences}
 use Rattle.lw_arrange.proofs.PieceLaws.{first_is_top}
-
--- a rectangle that was grown has all places that it had
-wider : (low z high l h : ℤ) → l ≤ℤ low → high ≤ℤ h → within low z high ≡ true → within l z h ≡ true
-unfolding within
-wider low z high l h first last has = grind (arith, ints)
-
-pub grown_has : (r q : Rectangle) (a b c d u v m n : ℤ) → q ≡ record { min_x = a; min_y = b; max_x = c; max_y = d } → u ≡ r.min_x
-    → v ≡ r.min_y → m ≡ r.max_x → n ≡ r.max_y → a ≤ℤ u → b ≤ℤ v → m ≤ℤ c → n ≤ℤ d → LiesIn r q
-grown_has r q a b c d u v m n is left top right bottom one two three four x y has =
-    let parts = and_parts (within r.min_x x r.max_x) (within r.min_y y r.max_y) has in
-    ap (λ (p : Rectangle). has_pixel p x y) is
-    ∙ and_from (within a x c) (within b y d)
-    (wider r.min_x x r.max_x a c (subst (λ z. a ≤ℤ z) left one) (subst (λ z. z ≤ℤ c) right three) parts.0)
-    (wider r.min_y y r.max_y b d (subst (λ z. b ≤ℤ z) top two) (subst (λ z. z ≤ℤ d) bottom four) parts.1)
 
 or_true : (t : Bool) → (t || true) ≡ true
 or_true true = refl

@@ -3,7 +3,7 @@ use Rattle.std.proofs.Common.{◌≡◌, ℕ, ◌<◌, ◌≤◌, ◌==◌, Bool
 use Rattle.std.specs.Prelude.{if◌then◌else◌}
 use Rattle.std.specs.List.{filter}
 use Rattle.std.specs.Option.{is_some}
-use Rattle.std.proofs.lemmas.Bool.{false≢true, cases_lt, ne_eqb, eq-eqb, eqb-true, eqb-false, or_parts, and_right}
+use Rattle.std.proofs.lemmas.Bool.{false≢true, cases_lt, ne_eqb, eq-eqb, eqb-false, or_parts, and_right}
 use Rattle.std.proofs.lemmas.List.{get_or_past}
 use Rattle.lw_region.specs.Rectangle.{has_pixel}
 use Rattle.lw_region.specs.Bands.{covers}

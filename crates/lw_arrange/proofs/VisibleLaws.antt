@@ -1,17 +1,12 @@
 -- What is visible of a layer after an arrangement.
-use Rattle.std.proofs.Common.{◌≡◌, ℕ, ◌<◌, Bool, true, false, not, ◌&&◌, ◌||◌, List, [], slice_index_or, ℤ, pos, ◌+ℤ◌, ◌-ℤ◌, Some, FitsSigned, w16, refl, sym, ap, subst, ◌∙◌, arith}
-use Rattle.std.proofs.lemmas.Int.{ints}
-use Rattle.std.proofs.lemmas.Bool.{and_parts, false_from_ne_true, both_ways}
-use Rattle.lw_region.specs.Rectangle.{Rectangle, within, has_pixel, IsWord, HasWords}
+use Rattle.std.proofs.Common.{◌≡◌, ℕ, ◌<◌, Bool, true, false, not, ◌&&◌, ◌||◌, List, [], slice_index_or, ℤ, Some, refl, sym, ap, subst, ◌∙◌}
+use Rattle.std.proofs.lemmas.Bool.{false_from_ne_true, both_ways}
+use Rattle.lw_region.specs.Rectangle.{Rectangle, has_pixel}
 use Rattle.lw_region.specs.Pixels.{pixels_of, union, difference}
 use Rattle.lw_region.specs.Bands.{bands, covers}
 use Rattle.lw_region.specs.Banded.{IsCanonical}
-use Rattle.lw_region.specs.Regions.{MayMove, moved_list}
-use Rattle.lw_region.proofs.Within.{within_low, within_high}
 use Rattle.lw_region.proofs.SetOps.{combined_lists, canonical_bands}
 use Rattle.lw_region.proofs.Canonical.{one_canonical}
-use Rattle.lw_region.proofs.Moving.{moved_lists}
-use Rattle.lw_cliprects.specs.Parts.{LieIn}
 use Rattle.lw_machine.specs.Desk.{is_the}
 use Rattle.lw_machine.specs.Screen.{bounds_have}
 use Rattle.lw_layer.specs.View.{State, CellView}
@@ -78,18 +73,18 @@ joined false true false h = absurd (cc (h refl))
 joined false false true h = absurd (cc (h refl))
 joined false false false h = refl
 
-pub live_shown : (a : ArrangementView) (c : CellView) (copy left own made : List Rectangle) → IsArrangement a
+pub live_shown : (a : ArrangementView) (c : CellView) (left own made : List Rectangle) → IsArrangement a
     → c.number < a.stack.sizes.slots → c.state ≡ view.Live → IsShownElsewhere a c
-    → ((x y : ℤ) → covers copy x y ≡ covers c.live.visible x y) → left ≡ bands (difference (pixels_of copy) (pixels_of a.area))
+    → left ≡ bands (difference (pixels_of c.live.visible) (pixels_of a.area))
     → own ≡ slice_index_or a.shown c.number [] → made ≡ bands (union (pixels_of left) (pixels_of own))
     → made ≡ shown_at a c.number
-live_shown a c copy left own made planned low live h same cleared are added =
+live_shown a c left own made planned low live h cleared are added =
     let on_top : ℤ → ℤ → Bool = λ x y. is_top_in a.stack c.number x y in
     shown_so a c.number made (subst IsCanonical (sym added) (canonical_bands (union (pixels_of left) (pixels_of own))))
     (λ x y.
     (combined_lists.unions left own made added).pixels x y
     ∙ (ap (λ b. b || covers own x y)
-    ((combined_lists.differences copy a.area left cleared).pixels x y ∙ ap (λ b. b && not (covers a.area x y)) (same x y))
+    ((combined_lists.differences c.live.visible a.area left cleared).pixels x y)
     ∙ (ap (λ b. (covers c.live.visible x y && not (covers a.area x y)) || b) (in_area a c.number own planned low are x y)
     ∙ joined (covers a.area x y) (covers c.live.visible x y) (on_top x y) (live_elsewhere a c live h x y))))
 
@@ -121,33 +116,3 @@ pub unexchanged_shown : (a : ArrangementView) (c : CellView) → IsSound c.live 
     → IsShownUnlessExchanged a c → c.live.visible ≡ shown_at a c.number
 unexchanged_shown a c sound live none h =
     shown_so a c.number c.live.visible sound.canonical (λ x y. sym (ap (λ q. is_visible q c.live x y) live) ∙ h none x y)
-
--- a number of 16 bits is a word
-pub word_at : (z b : ℤ) → FitsSigned w16 z → z ≡ b → IsWord b
-word_at z b fits is = (omega (arith, ints), omega (arith, ints))
-
--- what lies in bounds has places of 16 bits as it is
-word_as_it_is : (low z high : ℤ) → within low z high ≡ true → IsWord low → IsWord high → IsWord (z +ℤ pos 0)
-word_as_it_is low z high has least most =
-    let above = within_low low z high has in
-    let below = within_high low z high has in
-    let first = least.0 in
-    let last = most.1 in
-    (omega (arith, ints), omega (arith, ints))
-
-pub may_stay : (bounds : Rectangle) (rects : List Rectangle) → LieIn bounds rects → HasWords bounds → MayMove rects (pos 0) (pos 0)
-may_stay bounds rects inside words x y has =
-    let sides = and_parts (within bounds.min_x x bounds.max_x) (within bounds.min_y y bounds.max_y) (inside x y has) in (
-      word_as_it_is bounds.min_x x bounds.max_x sides.0 words.left words.right,
-      word_as_it_is bounds.min_y y bounds.max_y sides.1 words.top words.bottom,
-    )
-
--- a list that is moved by nothing has the same pixels
-pub moved_nowhere : (rects made : List Rectangle) → made ≡ moved_list rects (pos 0) (pos 0) → (x y : ℤ) → covers made x y ≡ covers rects x y
-moved_nowhere rects made e x y =
-    ap (λ l. covers l x y) e
-    ∙ (moved_lists.0 rects (pos 0) (pos 0) x y
-    ∙ (ap (λ u. covers rects u (y -ℤ pos 0)) (as_it_is x) ∙ ap (λ v. covers rects x v) (as_it_is y)))
-  where
-    as_it_is : (z : ℤ) → z -ℤ pos 0 ≡ z
-    as_it_is z = omega (arith, ints)

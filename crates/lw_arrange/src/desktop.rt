@@ -1,7 +1,8 @@
 // The desktop after an arrangement: in the area of the plan what no layer has then, and elsewhere what it was.
 
-ghost use Rattle.std.specs.Prelude.{◌≡◌, ◌≤ℤ◌, ◌++◌, ℤ, map, false, IfOk, OnOk, IsTrue, None};
+ghost use Rattle.std.specs.Prelude.{◌≡◌, ◌<ℤ◌, ◌++◌, ℤ, map, true, false, IfOk, OnOk, IsTrue, None};
 ghost use Rattle.std.specs.List.{All};
+ghost use Rattle.lw_region.specs.Rectangle.{AreApart};
 ghost use Rattle.lw_region.specs.Bands.{covers};
 ghost use Rattle.lw_calls.specs.Limits.{IsWithinLimits};
 ghost use Rattle.lw_cliprects.specs.Parts.{LieIn};
@@ -16,7 +17,7 @@ ghost use Rattle.lw_arrange.specs.Desktops.{IsSorted, IsRestOf};
 use crate::arrangement::Arrangement;
 use lw_calls::Sizes;
 use lw_region::{Rect, Region, clear_region, or_region};
-use lw_stack::{Info, meets};
+use lw_stack::Info;
 use lw_strips::Strip;
 use std::alloc::{AllocError, Global};
 
@@ -105,35 +106,36 @@ fn sort(
 fn is_near(rect: &Rect, area: &Region) -> bool
     ensures { result ≡ false → LieApart area.now rect.now }
 {
-    meets(area, &grown(rect))
-}
-
-// The rectangle with a column and a row more on each side.
-fn grown(rect: &Rect) -> Rect
-    ensures { LiesIn rect.now result }
-{
-    match Rect::new(
-        before(rect.min_x()),
-        before(rect.min_y()),
-        behind(rect.max_x()),
-        behind(rect.max_y()),
-    ) {
-        Some(grown) => grown,
-        None => *rect,
+    let parts = area.rects();
+    for part in parts {
+        if touch(part, rect) {
+            return true;
+        }
     }
+    false
 }
 
-// The place before this one, if there is one, and the one behind it.
-fn before(place: i16) -> i16
-    ensures { result ≤ℤ place }
+// Whether no column and no row is free between two rectangles.
+fn touch(a: &Rect, b: &Rect) -> bool
+    ensures { result ≡ false → AreApart a.now b.now }
 {
-    if place > 0 { place - 1 } else { place }
+    if ends_before(a.max_y(), b.min_y()) {
+        return false;
+    }
+    if ends_before(b.max_y(), a.min_y()) {
+        return false;
+    }
+    if ends_before(a.max_x(), b.min_x()) {
+        return false;
+    }
+    !ends_before(b.max_x(), a.min_x())
 }
 
-fn behind(place: i16) -> i16
-    ensures { place ≤ℤ result }
+// Whether a place is free between the last one and the first.
+fn ends_before(last: i16, first: i16) -> bool
+    ensures { result ≡ true → last <ℤ first }
 {
-    if place < 0x7fff { place + 1 } else { place }
+    i32::from(last) + 1 < i32::from(first)
 }
 
 // Adds a strip of pen 0 for each rectangle of a screen of these sizes.

@@ -4,7 +4,7 @@ ghost use Rattle.std.specs.Prelude.{◌≡◌, false, ◌&&◌, ◌++◌, map, l
 ghost use Rattle.lw_region.specs.Bands.{covers};
 ghost use Rattle.lw_arrange.specs.Pieces.{piece_of, pieces_to, with_desktop, losses_to, AreExchanged};
 
-use lw_region::{Rect, Region, and_region};
+use lw_region::{Rect, Region, intersection};
 use lw_stack::{Shown, SlotSet, meets};
 use lw_strips::Piece;
 use std::alloc::{AllocError, Global};
@@ -88,8 +88,7 @@ fn add_pieces(
     if !share_places(lost, gained) {
         return Ok(());
     }
-    let mut both = lost.copy(alloc)?;
-    and_region(alloc, gained, &mut both)?;
+    let both = intersection(alloc, lost.rects(), gained.rects())?;
     push_pieces(from, to, both.rects(), pieces)
 }
 

@@ -219,7 +219,7 @@ fn changed(
     let Some(visible) = changed_visible(alloc, cell, layer, arrangement, bounds)? else {
         return Ok(Becomes::Stays);
     };
-    let change = lw_reveal::prepare(alloc, layer, bounds, &visible)?;
+    let change = lw_reveal::prepare(alloc, layer, bounds, visible)?;
     Ok(Becomes::Changes(Box::new(alloc, change)?))
 }
 

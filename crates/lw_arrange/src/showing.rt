@@ -11,7 +11,7 @@ ghost use Rattle.lw_arrange.specs.Pieces.{exchanges};
 
 use crate::arrangement::Arrangement;
 use lw_layer::{Cell, Layer};
-use lw_region::{Rect, Region, clear_region, moved_region, or_region};
+use lw_region::{Rect, Region, difference, or_region};
 use lw_stack::meets;
 use lw_strips::Piece;
 use std::alloc::{AllocError, Global};
@@ -101,23 +101,7 @@ fn visible_after(
 {
     // Reading the sizes tells the proof what holds of the plan.
     let _ = arrangement.sizes();
-    let mut visible = visible_region(alloc, layer)?;
-    clear_region(alloc, arrangement.area(), &mut visible)?;
+    let mut visible = difference(alloc, layer.visible(), arrangement.area().rects())?;
     or_region(alloc, arrangement.shown(cell.slot()), &mut visible)?;
     Ok(visible)
-}
-
-// The visible rectangles of a layer as a region.
-fn visible_region(alloc: Global, layer: &Layer) -> Result<Region, AllocError>
-    ensures { IfOk result (λ made. (x y : ℤ) → covers made x y ≡ covers layer.now.visible x y) }
-{
-    // Reading the bounds tells the proof that all places in them are words.
-    let bounds = layer.look().bounds;
-    let _ = (
-        bounds.min_x(),
-        bounds.min_y(),
-        bounds.max_x(),
-        bounds.max_y(),
-    );
-    moved_region(alloc, layer.visible(), 0, 0)
 }

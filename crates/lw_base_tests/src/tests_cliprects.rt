@@ -72,7 +72,7 @@ static CASES: [Case; 9] = [
 fn parts_of(alloc: Global, bounds: &Rect, rects: &[[i16; 4]]) -> Result<Parts, Fail> {
     let mut visible = region_of(alloc, rects)?;
     visible.and_rect(alloc, bounds)?;
-    Ok(Parts::cut(alloc, bounds, &visible)?)
+    Ok(Parts::cut(alloc, bounds, visible)?)
 }
 
 #[test]

@@ -5,14 +5,19 @@ use Rattle.std.proofs.lemmas.Bool.{false≢true, false_from_ne_true, and_parts, 
 use Rattle.std.proofs.lemmas.List.Elements.{All-from_get_or, All-append}
 use Rattle.std.proofs.lemmas.List.Kept.{AllPairs-cons}
 use Rattle.lw_region.specs.Rectangle.{Rectangle, has_pixel, AreApart}
-use Rattle.lw_region.specs.Pixels.{pixels_of, difference, symmetric_difference}
+use Rattle.lw_region.specs.Pixels.{pixels_of, difference}
 use Rattle.lw_region.specs.Bands.{bands, covers}
 use Rattle.lw_region.specs.Banded.{IsCanonical}
 use Rattle.lw_region.specs.Regions.{rectangle_set}
-use Rattle.lw_region.proofs.Canonical.{covers_cons, one_canonical}
+use Rattle.lw_region.proofs.Canonical.{covers_cons}
 use Rattle.lw_region.proofs.SetOps.{covers_one, canonical_bands, combined_lists}
 use Rattle.lw_region.proofs.Disjoint.{canonical_disjoint, has_at}
 use Rattle.lw_cliprects.specs.Parts.{hidden_of, LieIn, AreDivided}
+
+-- the hidden rectangles are the bands of what the visible ones leave of the bounds
+pub hidden_bands : (bounds : Rectangle) (visible : List Rectangle) → bands (difference (rectangle_set bounds) (pixels_of visible)) ≡ hidden_of bounds visible
+unfolding hidden_of
+hidden_bands bounds visible = refl
 
 -- the hidden rectangles have the pixels of the bounds that are not visible
 pub covers_hidden : (bounds : Rectangle) (visible : List Rectangle) (x y : ℤ)
@@ -26,26 +31,11 @@ pub canonical_hidden : (bounds : Rectangle) (visible : List Rectangle) → IsCan
 unfolding hidden_of
 canonical_hidden bounds visible = canonical_bands (difference (rectangle_set bounds) (pixels_of visible))
 
--- what one of a set and a part of it has is what the set has and the part has not
-part_taken_out : (part whole : Bool) → (part ≡ true → whole ≡ true) → ((part && not whole) || (whole && not part)) ≡ (whole && not part)
-part_taken_out true true h = refl
-part_taken_out true false h = absurd (false≢true (h refl))
-part_taken_out false whole h = refl
-
 -- the part and what the part leaves are the whole
 part_put_back : (part whole : Bool) → (part ≡ true → whole ≡ true) → (part || (whole && not part)) ≡ whole
 part_put_back true whole h = sym (h refl)
 part_put_back false true h = refl
 part_put_back false false h = refl
-
--- what only one of the visible list and the bounds has is the hidden rectangles
-pub made_hidden : (bounds : Rectangle) (visible : List Rectangle) → LieIn bounds visible
-    → bands (symmetric_difference (pixels_of visible) (rectangle_set bounds)) ≡ hidden_of bounds visible
-made_hidden bounds visible inside =
-    one_canonical _ (hidden_of bounds visible) (canonical_bands _) (canonical_hidden bounds visible)
-    (λ x y. (combined_lists.symmetric visible (bounds ∷ []) _ refl).pixels x y
-    ∙ (ap (λ w. (covers visible x y && not w) || (w && not (covers visible x y))) (covers_one bounds x y)
-    ∙ (part_taken_out (covers visible x y) (has_pixel bounds x y) (inside x y) ∙ sym (covers_hidden bounds visible x y))))
 
 -- a rectangle of which a list has no pixel is apart from each of the list
 apart_from_each : (r : Rectangle) (rects : List Rectangle) → ((x y : ℤ) → has_pixel r x y ≡ true → covers rects x y ≡ false) → All (AreApart r) rects

@@ -2,7 +2,7 @@ ghost use Rattle.std.specs.Prelude.{◌≡◌, IfOk};
 ghost use Rattle.lw_region.specs.Banded.{IsCanonical};
 ghost use Rattle.lw_cliprects.specs.Parts.{Division, hidden_of, LieIn, AreDivided};
 
-use lw_region::{Rect, Region};
+use lw_region::{Rect, Region, difference};
 use std::alloc::{AllocError, Global};
 use std::marker::Model;
 
@@ -28,12 +28,11 @@ impl Model for Parts {
 
 impl Parts {
     /// Cuts the bounds into the rectangles of the visible region, which lies in the bounds, and those of what it leaves of them.
-    pub fn cut(alloc: Global, bounds: &Rect, visible: &Region) -> Result<Parts, AllocError>
-        requires { LieIn bounds.now visible.now }
-        ensures { IfOk result (λ parts. parts ≡ record { bounds = bounds.now; visible = visible.now }) }
+    pub fn cut(alloc: Global, bounds: &Rect, visible: Region) -> Result<Parts, AllocError>
+        requires { LieIn bounds.now visible }
+        ensures { IfOk result (λ parts. parts ≡ record { bounds = bounds.now; visible = visible }) }
     {
-        let hidden = hidden_region(alloc, bounds, visible)?;
-        let visible = visible.copy(alloc)?;
+        let hidden = hidden_region(alloc, bounds, &visible)?;
         Ok(Parts {
             bounds: *bounds,
             visible,
@@ -76,12 +75,9 @@ impl Parts {
 
 // The pixels of the bounds that are not visible.
 fn hidden_region(alloc: Global, bounds: &Rect, visible: &Region) -> Result<Region, AllocError>
-    requires { LieIn bounds.now visible.now }
     ensures { IfOk result (λ hidden. hidden ≡ hidden_of bounds.now visible.now) }
 {
-    let mut hidden = visible.copy(alloc)?;
-    hidden.xor_rect(alloc, bounds)?;
-    Ok(hidden)
+    difference(alloc, bounds.as_list(), visible.rects())
 }
 
 // Parts may go to another thread, and threads may share them: the bounds ask for the proofs.

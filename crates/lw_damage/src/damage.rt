@@ -2,7 +2,7 @@ ghost use Rattle.std.specs.Prelude.{◌≡◌, true, false, ◌&&◌, ◌||◌, 
 ghost use Rattle.lw_region.specs.Bands.{covers};
 ghost use Rattle.lw_damage.specs.Damaged.{Damaged, IsDamageWith, may_lie, with_more, ended};
 
-use lw_region::{Rect, Region, or_region};
+use lw_region::{Rect, Region, intersection, or_region};
 use std::alloc::{AllocError, Global};
 use std::marker::Model;
 
@@ -107,8 +107,7 @@ impl Damage {
         ensures err { OnErr result (self.new ≡ self.old) }
     {
         if let Some(inner) = &self.inner {
-            let mut inside = more.copy(alloc)?;
-            inside.and_rect(alloc, inner)?;
+            let inside = intersection(alloc, more.rects(), inner.as_list())?;
             or_region(alloc, &inside, &mut self.region)?;
         }
         Ok(())

@@ -1,5 +1,5 @@
-// Blocks of rows that are copied column by column: as many bits of each row at a time as one word has on both sides, wherever in
-// a byte they begin. So the rows of a column have one loop, in which neither a mask nor a shift is worked out.
+// Blocks of rows that are copied column by column: as many bits of each row at a time as one word has on both sides, or two
+// (`wide`), wherever in a byte they begin. So the rows of a column have one loop, in which neither a mask nor a shift is worked out.
 
 ghost use Rattle.std.specs.Prelude.{◌≡◌, ℕ, ◌+◌, ◌-◌, ◌*◌, ◌^◌, ◌<◌, ◌≤◌, ◌&&◌, nat_lt, true, if◌then◌else◌, bit_and, length};
 ghost use Rattle.lw_planes.specs.Row.{row_bit};
@@ -52,7 +52,8 @@ pub(crate) fn goes_by_columns(
 }
 
 // Copies `count` bits from bit `source_bit` of each row of the source to the row of the same number, from its bit `to_bit` on.
-// Bits that are moved across bytes go by two words at once, where that pays for itself: in a few rows at least.
+// Bits that are moved across bytes go by two words at once, where these lie in the rows and that takes less time: from 16 rows on,
+// where one word has too few bits. Where the first bits can't, for want of a byte before the source's, more must follow.
 #[inline(always)]
 pub(crate) fn copy_columns(
     to: &mut [u8],
@@ -77,9 +78,9 @@ pub(crate) fn copy_columns(
 {
     let (to_place, source_place) = (to_bit as usize, source_bit as usize);
     let bits = count as usize;
-    let turned = to_bit % 8 != source_bit % 8;
+    let across = to_bit % 8 != source_bit % 8;
     let starts = source_bit >= to_bit % 8 || count > 2 * WORD_BITS;
-    if count > WORD_BITS && rows >= 16 && to_step >= 16 && source_step > 16 && turned && starts {
+    if count > WORD_BITS && rows >= 16 && to_step >= 16 && source_step > 16 && across && starts {
         copy_two_words(
             to,
             to_step,
@@ -104,7 +105,7 @@ pub(crate) fn copy_columns(
     }
 }
 
-// As `copy_columns`, by two words at once wherever they lie in the rows.
+// As `copy_columns`: by columns of two words, and as `copy_words` for bits that have none.
 #[inline(never)]
 fn copy_two_words(
     to: &mut [u8],
@@ -144,7 +145,7 @@ fn copy_two_words(
     }
 }
 
-// Copies the first ones of so many bits of each row, and says how many.
+// Copies the first of `count` bits of each row, by two words at once or else as `copy_words`, and says how many.
 #[inline(always)]
 fn copy_first(
     to: &mut [u8],

@@ -117,7 +117,7 @@ pub fn combine_rows(
     }
 }
 
-// As `combine_rows`, row by row. A call of its own, as `copy_columns` is.
+// As `combine_rows`, row by row. A call of its own, as those that `copy_columns` makes are.
 #[inline(never)]
 fn combine_spans(
     to: &mut [u8],

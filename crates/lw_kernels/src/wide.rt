@@ -10,8 +10,8 @@ ghost use Rattle.lw_kernels.specs.Wide.{IsMasks, IsWideColumn, IsWideColumnOf};
 
 use crate::words::{put_whole, word_at, word_mask, word_of};
 
-// The bits of a word that come from the bytes that stand there in the source, those that come from the bytes behind these, and
-// those that stay.
+// Which bits of a word come from the bytes at the same places of the source's word (`here`), which from the bytes behind these
+// (`next`), and which stay (`old`).
 #[derive(Clone, Copy)]
 pub(crate) struct Masks {
     here: u64,
@@ -20,7 +20,7 @@ pub(crate) struct Masks {
 }
 
 // Some bits of each row, in the two words from byte `at` on: `count` bits from bit `lead` of these on. The first bit of the words
-// stands for bit `shift` of byte `start` of the source's row.
+// has its source at bit `shift` of byte `start` of the source's row.
 #[derive(Clone, Copy)]
 pub(crate) struct WideColumn {
     at: usize,
@@ -32,9 +32,9 @@ pub(crate) struct WideColumn {
     second: Masks,
 }
 
-// A column of the first of so many bits of rows of so many bytes, where two words and one more byte of the source lie in the rows
-// and more bits than one word has are in them. Its words begin with the byte of the first bit, or so many bytes before it that
-// they end with their rows.
+// A column of the first of so many bits of rows of so many bytes, if there is one: its two words lie in the rows on either side,
+// with one more byte behind the source's, and the bits reach into the second word. The words begin with the byte of the first
+// bit, or on both sides as many bytes before it as they need to lie in their rows.
 #[inline(always)]
 pub(crate) fn wide_column_of(
     to_step: usize,
@@ -45,8 +45,6 @@ pub(crate) fn wide_column_of(
 ) -> Option<WideColumn>
     requires wide { 16 ≤ to_step }
     requires source_wide { 16 < source_step }
-    requires inside { to_bit + count ≤ 8 * to_step }
-    requires source_inside { source_bit + count ≤ 8 * source_step }
     ensures { IfSome result (λ column. IsWideColumnOf to_step to_bit source_step source_bit count column) }
 {
     let bit = to_bit % 8;
@@ -74,7 +72,7 @@ pub(crate) fn wide_column_of(
     })
 }
 
-// The masks of a word for the new bits that another mask names.
+// The masks of a word whose new bits are those that `named` has, where bytes take theirs from bit `shift` of the source's on.
 #[inline(always)]
 fn masks_of(named: u64, shift: u32) -> Masks
     requires low { shift < 8 }
@@ -121,7 +119,8 @@ pub(crate) fn copy_wide(
     }
 }
 
-// Copies the bits of a column in the row whose words begin with byte `at`, and the source's with byte `start`.
+// Copies the bits of a column in the row whose words begin with byte `at`, and the source's with byte `start`. Both words are made
+// before one is stored, so that the compiler makes them as one vector.
 #[inline(always)]
 fn copy_wide_row(to: &mut [u8], at: usize, source: &[u8], start: usize, column: WideColumn)
     requires column { IsWideColumn column }
@@ -138,7 +137,7 @@ fn copy_wide_row(to: &mut [u8], at: usize, source: &[u8], start: usize, column: 
     put_whole(to, at + 8, second);
 }
 
-// What the word at byte `at` of a row becomes.
+// What the word at byte `at` of a row becomes, with its new bits from bit `shift` of the source's byte `start` on.
 #[inline(always)]
 fn new_word(to: &[u8], at: usize, source: &[u8], start: usize, shift: u32, masks: Masks) -> u64
     requires low { shift < 8 }

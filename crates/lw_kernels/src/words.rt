@@ -43,8 +43,8 @@ pub(crate) fn put_word(to: &mut [u8], at: usize, word: u64, size: usize)
     }
 }
 
-// As `put_word`, all eight bytes. The compiler takes two of them that follow one another for one store of 16 bytes, which it doesn't
-// where they are shifted out of the word.
+// As `put_word`, all eight bytes. Of two such calls for neighbouring words the compiler makes one store of 16 bytes; where bytes
+// are shifted out of the words it doesn't.
 #[inline(always)]
 pub(crate) fn put_whole(to: &mut [u8], at: usize, word: u64)
     requires { at + 8 ≤ length to.old }

@@ -42,7 +42,8 @@ impl LiveDraft {
         ensures layer { IfOk result (λ d. live_view d
             ≡ new_live make.now depth bounds.now visible.now (window_of window) (room_of window)) }
     {
-        let parts = Parts::cut(alloc, bounds, visible)?;
+        let shown = visible.copy(alloc)?;
+        let parts = Parts::cut(alloc, bounds, shown)?;
         let strips = blank_strips(alloc, bounds, parts.visible(), depth)?;
         let covered = covered_buffers(alloc, make.kind, bounds, &parts, depth)?;
         let superbits = own_bitmap(alloc, make, depth)?;

@@ -20,4 +20,6 @@ pub use laws::{
     one_list_law, one_set_law, set_of_list_law, set_operations_law, worked_example_law,
 };
 pub use rect::Rect;
-pub use region::{Region, and_region, clear_region, moved_region, or_region, xor_region};
+pub use region::{
+    Region, and_region, clear_region, difference, intersection, moved_region, or_region, xor_region,
+};

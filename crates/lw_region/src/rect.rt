@@ -64,8 +64,8 @@ impl Rect {
         }
     }
 
-    // The list of this rectangle alone.
-    pub(crate) fn as_list(&self) -> &[Rect]
+    /// The canonical list of this rectangle alone.
+    pub fn as_list(&self) -> &[Rect]
         ensures value { result.now ≡ self.now ∷ [] }
         ensures canonical { IsCanonical result.now }
     {

@@ -148,10 +148,44 @@ impl Region {
         ensures list { OnOk result (self.new ≡ bands (combined operation (pixels_of self.old) (pixels_of other.now))) }
         ensures err { OnErr result (self.new ≡ self.old) }
     {
-        let made = sweep(alloc, operation, self.rects(), other)?;
-        self.rects = made;
+        let made = combination(alloc, operation, self.rects(), other)?;
+        *self = made;
         Ok(())
     }
+}
+
+// The region of the pixels for which the operation holds on two canonical lists.
+fn combination(
+    alloc: Global,
+    operation: Operation,
+    a: &[Rect],
+    b: &[Rect],
+) -> Result<Region, AllocError>
+    requires canonical_a { IsCanonical a.now }
+    requires canonical_b { IsCanonical b.now }
+    ensures { IfOk result (λ made. made ≡ bands (combined operation (pixels_of a.now) (pixels_of b.now))) }
+{
+    let rects = sweep(alloc, operation, a, b)?;
+    Ok(Region { rects })
+}
+
+/// The region of the pixels that two canonical lists both have (this project's own: AndRegionRegion and AndRectRegion change a
+/// region, of which a copy would be made first).
+pub fn intersection(alloc: Global, a: &[Rect], b: &[Rect]) -> Result<Region, AllocError>
+    requires canonical_a { IsCanonical a.now }
+    requires canonical_b { IsCanonical b.now }
+    ensures { IfOk result (λ made. made ≡ bands (intersection (pixels_of a.now) (pixels_of b.now))) }
+{
+    combination(alloc, Operation::Intersection, a, b)
+}
+
+/// The region of the pixels of one canonical list that another one has not (this project's own, as `intersection`).
+pub fn difference(alloc: Global, a: &[Rect], b: &[Rect]) -> Result<Region, AllocError>
+    requires canonical_a { IsCanonical a.now }
+    requires canonical_b { IsCanonical b.now }
+    ensures { IfOk result (λ made. made ≡ bands (difference (pixels_of a.now) (pixels_of b.now))) }
+{
+    combination(alloc, Operation::Difference, a, b)
 }
 
 /// Adds the pixels of `from` to `into` (OrRegionRegion). After an error both are as before.

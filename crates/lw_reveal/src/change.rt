@@ -48,18 +48,18 @@ pub fn prepare(
     alloc: Global,
     layer: &Layer,
     bounds: &Rect,
-    visible: &Region,
+    visible: Region,
 ) -> Result<Change, AllocError>
-    requires may { MayHave layer.now bounds.now visible.now }
+    requires may { MayHave layer.now bounds.now visible }
     ensures change { IfOk result (λ k. IsChange layer.now k) }
     ensures bounds { IfOk result (λ k. k.bounds ≡ bounds.now) }
-    ensures visible { IfOk result (λ k. k.parts.visible ≡ visible.now) }
+    ensures visible { IfOk result (λ k. k.parts.visible ≡ visible) }
 {
     // Reading this tells the proof that the bounds are ordered.
     let _ = bounds.min_x();
     let look = layer.look();
+    let damage = damage_after(alloc, layer, bounds, &visible)?;
     let parts = Parts::cut(alloc, bounds, visible)?;
-    let damage = damage_after(alloc, layer, bounds, visible)?;
     let pairing = find_pairs(alloc, layer, &look, bounds, &parts)?;
     let _ = parts.hidden();
     let shown = parts.visible().len();

@@ -11,7 +11,7 @@ ghost use Rattle.lw_reveal.specs.Gained.{AreLeft, AreOf, StaysUndamaged};
 use lw_calls::Kind;
 use lw_damage::Damage;
 use lw_layer::{Layer, inner_rectangle, kept_region};
-use lw_region::{Rect, Region, clear_region};
+use lw_region::{Rect, Region, clear_region, difference};
 use std::alloc::{AllocError, Global};
 
 // The damage of the live layer once it has these bounds and these visible pixels: what it keeps then and doesn't count as kept
@@ -104,9 +104,12 @@ fn left_region(
     if takes_all(&taken, spared, &from) {
         return Ok(Region::new(alloc));
     }
-    let mut out = taken;
-    clear_region(alloc, spared, &mut out)?;
     let mut left = from;
+    if spared.rects().is_empty() {
+        clear_region(alloc, &taken, &mut left)?;
+        return Ok(left);
+    }
+    let out = difference(alloc, taken.rects(), spared.rects())?;
     clear_region(alloc, &out, &mut left)?;
     Ok(left)
 }

@@ -13,7 +13,7 @@ use crate::block::{block_of, brought_block, rect_of};
 use lw_calls::Kind;
 use lw_damage::Damage;
 use lw_layer::{Layer, kept_region};
-use lw_region::{Rect, Region, and_region, clear_region, moved_region, or_region};
+use lw_region::{Rect, Region, and_region, clear_region, difference, moved_region, or_region};
 use std::alloc::{AllocError, Global};
 
 // The damage of the layer once its pixels were scrolled; `None` where it is as before.
@@ -160,8 +160,7 @@ fn due_region(
 ) -> Result<Region, AllocError>
     ensures { IfOk result (λ due. AreDue former.now reached hurt.now due) }
 {
-    let mut due = former.copy(alloc)?;
-    clear_region(alloc, &reached, &mut due)?;
+    let mut due = difference(alloc, former.rects(), reached.rects())?;
     let mut brought = reached;
     and_region(alloc, hurt, &mut brought)?;
     or_region(alloc, &brought, &mut due)?;

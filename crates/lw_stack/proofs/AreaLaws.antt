@@ -117,16 +117,15 @@ pub none_added : (c a b d : Bool) → (a && b) ≡ false → c ≡ (c || ((a && 
 none_added c a b d e = sym (ap (λ t. c || (t && d)) e ∙ or-false c)
 
 -- what a rectangle has of the rest is added to a slot's set, and taken from the rest
-pub part_added : (rest part both : List Rectangle) (rect : Rectangle) (slot : ℕ) (sets made : List (List Rectangle)) → part ≡ rest
-    → both ≡ bands (intersection (pixels_of part) (rectangle_set rect))
+pub part_added : (rest both : List Rectangle) (rect : Rectangle) (slot : ℕ) (sets made : List (List Rectangle))
+    → both ≡ bands (intersection (pixels_of rest) (rectangle_set rect))
     → ((s : ℕ) (x y : ℤ) → covers (get_or made s []) x y ≡ (covers (get_or sets s []) x y || (covers both x y && (slot == s))))
     → (s : ℕ) (x y : ℤ) → covers (get_or made s []) x y
     ≡ (covers (get_or sets s []) x y || ((covers rest x y && has_pixel rect x y) && (slot == s)))
-part_added rest part both rect slot sets made e f added s x y =
+part_added rest both rect slot sets made f added s x y =
     added s x y
     ∙ ap (λ b. covers (get_or sets s []) x y || (b && (slot == s)))
-    ((combined_lists.intersections part (rect ∷ []) both f).pixels x y
-    ∙ (ap (λ b. covers part x y && b) (covers_one rect x y) ∙ ap (λ rects. covers rects x y && has_pixel rect x y) e))
+    ((combined_lists.intersections rest (rect ∷ []) both f).pixels x y ∙ ap (λ b. covers rest x y && b) (covers_one rect x y))
 
 pub part_taken : (rest left : List Rectangle) (rect : Rectangle) → left ≡ bands (difference (pixels_of rest) (rectangle_set rect))
     → (x y : ℤ) → covers left x y ≡ (covers rest x y && not (has_pixel rect x y))

@@ -1,7 +1,6 @@
 -- Regions by slot, of which few have pixels.
-use Rattle.std.proofs.Common.{◌≡◌, ℕ, zero, suc, ◌+◌, ◌<◌, ◌≤◌, ◌==◌, Bool, true, false, ◌&&◌, ◌||◌, List, [], ◌∷◌, ◌++◌, length, take, map, get_or, set, ℤ, refl, sym, ap, subst, ◌∙◌, inl, inr, arith}
+use Rattle.std.proofs.Common.{◌≡◌, ℕ, zero, suc, ◌+◌, ◌<◌, ◌≤◌, ◌==◌, Bool, true, false, ◌&&◌, ◌||◌, List, [], ◌∷◌, ◌++◌, length, take, get_or, set, ℤ, refl, sym, ap, subst, ◌∙◌, inl, inr, arith}
 use Rattle.std.specs.Prelude.{if◌then◌else◌}
-use Rattle.std.specs.List.{range_with_len}
 use Rattle.std.proofs.lemmas.Bool.{false≢true, cases_lt, eq-eqb, ne_eqb, eqb-true, and_right}
 use Rattle.std.proofs.Math.Bool.{or-false}
 use Rattle.std.proofs.lemmas.List.{take_more, take_all, get_or_past}
@@ -10,9 +9,8 @@ use Rattle.lw_region.specs.Rectangle.{Rectangle}
 use Rattle.lw_region.specs.Pixels.{pixels_of, union}
 use Rattle.lw_region.specs.Bands.{bands, covers}
 use Rattle.lw_region.proofs.SetOps.{combined_lists}
-use Rattle.lw_region.proofs.Canonical.{covers_nil}
 use Rattle.lw_stack.specs.declared.sets.SlotSet.{SlotSet}
-use Rattle.lw_stack.specs.Sets.{set_of, sets_of, AreOfOthers, AreOfSlots, IsPlaceOf}
+use Rattle.lw_stack.specs.Sets.{set_of, sets_of, AreOfOthers, AreOfSlots}
 
 -- one more at the end
 pub others_more : (s : ℕ) (ps : List SlotSet) (p : SlotSet) → AreOfOthers s ps → (p.slot == s) ≡ false → AreOfOthers s (ps ++ p ∷ [])

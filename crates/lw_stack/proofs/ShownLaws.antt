@@ -24,14 +24,10 @@ covers_more rect covered more e x y =
     (combined_lists.unions covered (rect ∷ []) more e).pixels x y ∙ ap (λ b. covers covered x y || b) (covers_one rect x y)
 
 -- the rectangle without what is covered of it
-pub covers_left : (rect : Rectangle) (covered empty whole left : List Rectangle) → empty ≡ []
-    → whole ≡ bands (union (pixels_of empty) (rectangle_set rect))
-    → left ≡ bands (difference (pixels_of whole) (pixels_of covered))
+pub covers_left : (rect : Rectangle) (covered left : List Rectangle) → left ≡ bands (difference (rectangle_set rect) (pixels_of covered))
     → (x y : ℤ) → covers left x y ≡ (has_pixel rect x y && not (covers covered x y))
-covers_left rect covered empty whole left e f g x y =
-    (combined_lists.differences whole covered left g).pixels x y
-    ∙ ap (λ b. b && not (covers covered x y))
-    (covers_more rect empty whole f x y ∙ ap (λ b. b || has_pixel rect x y) (no_pixel empty x y e))
+covers_left rect covered left g x y =
+    (combined_lists.differences (rect ∷ []) covered left g).pixels x y ∙ ap (λ b. b && not (covers covered x y)) (covers_one rect x y)
 
 -- without bounds nothing is left
 pub covers_nothing : (bounds : Option Rectangle) (covered left : List Rectangle) → bounds ≡ None → left ≡ []

@@ -9,7 +9,7 @@ ghost use Rattle.lw_stack.specs.Stack.{bounds_at, first_at, AreShownIn, LieApart
 
 use crate::sets::SlotSets;
 use lw_calls::Sizes;
-use lw_region::{Rect, Region, clear_region};
+use lw_region::{Rect, Region, difference, intersection};
 use lw_strips::screen_of;
 use std::alloc::{AllocError, Global};
 
@@ -93,8 +93,7 @@ fn take_part(
     if !meets(rest, rect) {
         return Ok(());
     }
-    let mut part = rest.copy(alloc)?;
-    part.and_rect(alloc, rect)?;
+    let part = intersection(alloc, rest.rects(), rect.as_list())?;
     sets.add(alloc, slot, part)?;
     rest.clear_rect(alloc, rect)
 }
@@ -140,13 +139,10 @@ pub(crate) fn uncovered(
     ensures { IfOk result
         (λ shown. (x y : ℤ) → covers shown x y ≡ (bounds_have bounds x y && not (covers covered.now x y))) }
 {
-    let mut shown = Region::new(alloc);
-    let Some(rect) = &bounds else {
-        return Ok(shown);
-    };
-    shown.or_rect(alloc, rect)?;
-    clear_region(alloc, covered, &mut shown)?;
-    Ok(shown)
+    match &bounds {
+        Some(rect) => difference(alloc, rect.as_list(), covered.rects()),
+        None => Ok(Region::new(alloc)),
+    }
 }
 
 /// Adds the pixels of the bounds, if there are any, to the region. It fails only when out of memory, and then the region stays as

@@ -20,7 +20,7 @@ returns-clause-change c =
     let live = c.args.layer.now in
     let bounds : Rectangle = c.args.bounds.now in
     let parts : Division = c.in_ok-parts.parts in
-    let shown : parts.visible ≡ c.args.visible.now = ap (λ (q : Division). q.visible) c.in_ok-parts.ensures in
+    let shown : parts.visible ≡ c.args.visible = ap (λ (q : Division). q.visible) c.in_ok-parts.ensures in
     let M : List Rectangle → Type 0 = λ q. MayHave live bounds q in
     let D : List Rectangle → Type 0 = λ q. IsDamageOf (carried_to bounds q live) c.in_ok-damage.damage in
     prepared live _ c.in_ok-pairing.pairing _ c.in_ok-pairing.ensures refl c.in_ok-strips.ensures (ap length c.visible-shown.ensures.value)

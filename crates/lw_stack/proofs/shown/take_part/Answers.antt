@@ -9,5 +9,5 @@ returns-clause-rest c =
 pub returns-clause-sets : goal.returns-clause-sets
 returns-clause-sets c =
     on_ok_weaker c.clear_rect.result
-    (λ _. part_added c.args.rest.now c.in_ok-part.part c.and_rect.new.self c.args.rect.now c.args.slot c.args.sets.now.items
-    c.add.new.self.items c.in_ok-part.ensures c.in_ok-and_rect.ensures.list c.in_ok-add.ensures.sets) c.clear_rect.ensures.list
+    (λ _. part_added c.args.rest.now c.in_ok-part.part c.args.rect.now c.args.slot c.args.sets.now.items c.add.new.self.items
+    (rw (c.rects.ensures.value, c.as_list.ensures.value) at c.in_ok-part.ensures) c.in_ok-add.ensures.sets) c.clear_rect.ensures.list

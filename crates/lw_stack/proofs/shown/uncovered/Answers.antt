@@ -1,11 +1,15 @@
+use Rattle.std.proofs.Common.{List, ℤ, ◌≡◌, not, ◌&&◌}
+use Rattle.std.proofs.lemmas.Result.{IfOk-weaker}
+use Rattle.lw_region.specs.Rectangle.{Rectangle}
+use Rattle.lw_region.specs.Bands.{covers}
+use Rattle.lw_machine.specs.Screen.{bounds_have}
 use Rattle.lw_stack.proofs.ShownLaws.{covers_left, covers_nothing}
 use Rattle.lw_stack.proofs.shown.uncovered.Goals as goal
 
-pub returns-in_default : goal.returns-in_default
-returns-in_default c = covers_nothing c.args.bounds c.args.covered.now c.new-shown.result c.in_default.is c.new-shown.ensures
+pub returns-in-None : goal.returns-in-None
+returns-in-None c = covers_nothing c.args.bounds c.args.covered.now c.new.result c.in-None.is c.new.ensures
 
-pub returns : goal.returns
-returns c = λ x y.
-    rw c.in-Some.is
-    (covers_left c.in-Some.rect c.args.covered.now c.new-shown.result c.or_rect.new.self c.clear_region.new.into
-    c.new-shown.ensures c.in_ok-or_rect.ensures.list c.in_ok-clear_region.ensures.list x y)
+pub returns-in-Some : goal.returns-in-Some
+returns-in-Some c =
+    IfOk-weaker c.difference.result _ (λ (left : List Rectangle). (x y : ℤ) → covers left x y ≡ (bounds_have c.args.bounds x y && not (covers c.args.covered.now x y)))
+    (λ left e x y. rw c.in-Some.is (covers_left c.in-Some.rect c.args.covered.now left e x y)) (rw (c.as_list.ensures.value, c.rects.ensures.value) at c.difference.ensures)

@@ -9,7 +9,7 @@ made : (c : goal.After-drop-inside-inside-in-Some) → IsAdded c.self.inside.inn
 made c =
     let P : Option Rectangle → Type 0 = λ inner. IsAdded inner c.self.inside.region c.args.more.now c.or_region.new.into in
     subst P (sym c.in-Some.is)
-    (added c.in-Some.inner c.self.inside.region c.args.more.now c.and_rect.new.self c.or_region.new.into (rw c.in_ok-inside.ensures at c.in_ok-and_rect.ensures.list) c.in_ok-or_region.ensures.list)
+    (added c.in-Some.inner c.self.inside.region c.args.more.now c.in_ok-inside.inside c.or_region.new.into (rw (c.rects.ensures.value, c.as_list.ensures.value) at c.in_ok-inside.ensures) c.in_ok-or_region.ensures.list)
 
 pub returns-in_ok-or_region-clause-pixels : goal.returns-in_ok-or_region-clause-pixels
 returns-in_ok-or_region-clause-pixels c =

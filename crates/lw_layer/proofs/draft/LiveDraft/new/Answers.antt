@@ -34,7 +34,7 @@ returns-clause-draft c =
       active = false;
       window = c.args.window;
     } in
-    let parts : c.in_ok-parts.parts ≡ record { bounds = bounds; visible = visible } = c.in_ok-parts.ensures in
+    let parts : c.in_ok-parts.parts ≡ record { bounds = bounds; visible = visible } = rw c.in_ok-shown.ensures at c.in_ok-parts.ensures in
     let damage : c.new.result ≡ record { inner = inner_of (is_super make.kind) (is_framed (window_of c.args.window)) (width bounds) (height bounds); rects = []; updating = false } = c.new.ensures ∙ ap (λ i. record { inner = i; rects = []; updating = false }) (c.inner_rectangle-inner.ensures ∙ ap (λ f. inner_of (is_super make.kind) f (width bounds) (height bounds)) c.is_framed.ensures) in
     let own : c.in_ok-superbits.superbits ≡ own_blank make.kind c.args.depth make = c.in_ok-superbits.ensures in
     let same : (λ (p : Division). p.visible) c.in_ok-parts.parts ≡ visible = ap (λ (p : Division). p.visible) parts in
@@ -72,7 +72,7 @@ returns-clause-layer c =
       active = false;
       window = c.args.window;
     } in
-    let parts : c.in_ok-parts.parts ≡ record { bounds = bounds; visible = visible } = c.in_ok-parts.ensures in
+    let parts : c.in_ok-parts.parts ≡ record { bounds = bounds; visible = visible } = rw c.in_ok-shown.ensures at c.in_ok-parts.ensures in
     let damage : c.new.result ≡ record { inner = inner_of (is_super make.kind) (is_framed (window_of c.args.window)) (width bounds) (height bounds); rects = []; updating = false } = c.new.ensures ∙ ap (λ i. record { inner = i; rects = []; updating = false }) (c.inner_rectangle-inner.ensures ∙ ap (λ f. inner_of (is_super make.kind) f (width bounds) (height bounds)) c.is_framed.ensures) in
     let own : c.in_ok-superbits.superbits ≡ own_blank make.kind c.args.depth make = c.in_ok-superbits.ensures in
     let same : (λ (p : Division). p.visible) c.in_ok-parts.parts ≡ visible = ap (λ (p : Division). p.visible) parts in
