@@ -54,7 +54,8 @@ pub(crate) fn goes_by_columns(
 // Copies `count` bits from bit `source_bit` of each row of the source to the row of the same number, from its bit `to_bit` on.
 // Bits that are moved across bytes go by two words at once, where these lie in the rows and that takes less time: from 16 rows on,
 // where one word has too few bits. Where the first bits can't, for want of a byte before the source's, more must follow.
-#[inline(always)]
+// It is a call of its own, so that its loops keep their registers, and so that `combine_rows` stays small enough to go in line.
+#[inline(never)]
 pub(crate) fn copy_columns(
     to: &mut [u8],
     to_step: usize,
@@ -92,7 +93,7 @@ pub(crate) fn copy_columns(
             bits,
         );
     } else {
-        copy_words(
+        copy_by_size(
             to,
             to_step,
             to_place,
@@ -157,7 +158,7 @@ fn copy_first(
     rows: u32,
     count: usize,
 ) -> usize
-    requires some { 0 < count }
+    requires bits { 0 < count }
     requires wide { 16 ≤ to_step }
     requires source_wide { 16 < source_step }
     requires near { to_bit + count < 2 ^ 40 }
@@ -166,7 +167,7 @@ fn copy_first(
     requires to_all { rows * to_step ≤ length to.old }
     requires source_inside { source_bit + count ≤ 8 * source_step }
     requires source_all { rows * source_step ≤ length source.now }
-    ensures done { 0 < result }
+    ensures some { 0 < result }
     ensures few { result ≤ count }
     ensures copied { (y x : ℕ) → x < 8 * to_step → row_bit to.new (place_in to_step y x) ≡
         (if nat_lt y rows && is_between to_bit (to_bit + result) x
@@ -191,10 +192,46 @@ fn copy_first(
     part
 }
 
-// As `copy_columns`, one word at a time. Each size of words has code of its own. It is a call of its own, so that its loops and
-// those of the other ways keep their registers.
+// As `copy_columns`, one word at a time. A call of its own, so that the loops of two words keep their registers.
 #[inline(never)]
 fn copy_words(
+    to: &mut [u8],
+    to_step: usize,
+    to_bit: usize,
+    source: &[u8],
+    source_step: usize,
+    source_bit: usize,
+    rows: u32,
+    count: usize,
+)
+    requires wide { 2 ≤ to_step }
+    requires source_wide { 2 ≤ source_step }
+    requires near { to_bit + count < 2 ^ 40 }
+    requires near_source { source_bit + count < 2 ^ 40 }
+    requires to_inside { to_bit + count ≤ 8 * to_step }
+    requires to_all { rows * to_step ≤ length to.old }
+    requires source_inside { source_bit + count ≤ 8 * source_step }
+    requires source_all { rows * source_step ≤ length source.now }
+    ensures { (y x : ℕ) → x < 8 * to_step → row_bit to.new (place_in to_step y x) ≡
+        (if nat_lt y rows && is_between to_bit (to_bit + count) x
+        then row_bit source.now (place_in source_step y (source_bit + (x - to_bit)))
+        else row_bit to.old (place_in to_step y x)) }
+{
+    copy_by_size(
+        to,
+        to_step,
+        to_bit,
+        source,
+        source_step,
+        source_bit,
+        rows,
+        count,
+    );
+}
+
+// As `copy_words`, in line: each size of words has code of its own.
+#[inline(always)]
+fn copy_by_size(
     to: &mut [u8],
     to_step: usize,
     to_bit: usize,
@@ -257,7 +294,7 @@ fn copy_words(
     }
 }
 
-// As `copy_words`, in words of `size` bytes.
+// As `copy_by_size`, in words of `size` bytes.
 #[inline(always)]
 fn copy_by_words(
     to: &mut [u8],
