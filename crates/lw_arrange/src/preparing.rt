@@ -23,6 +23,7 @@ use crate::exchange::{Exchange, exchange_of};
 use crate::showing::{changed_visible, new_visible};
 use lw_calls::{Call, Text};
 use lw_layer::{Cell, Draft, DraftState, LiveDraft, WindowDraft};
+use lw_planes::Spare;
 use lw_ports::{MessageSet, Port};
 use lw_region::{Rect, Region};
 use lw_reveal::{Change, apply};
@@ -61,12 +62,13 @@ pub enum Becomes {
 }
 
 /// Prepares the cell of a slot for the arrangement, outside whose area the cell has to show what the plan says. It takes all the
-/// memory that is needed for the cell, and changes nothing. A layer whose bounds and visible rectangles stay is not copied, and
+/// memory that is needed for the cell, of `spare` as far as that has some, and changes nothing. A layer whose bounds and visible rectangles stay is not copied, and
 /// of one that stays where it is and doesn't meet the area no rectangle is looked at. It fails only when out of memory.
 pub fn prepare(
     alloc: Global,
     cell: &Cell,
     arrangement: &Arrangement,
+    spare: &mut Spare,
 ) -> Result<Prepared, AllocError>
     requires slot { cell.now.number < arrangement.now.stack.sizes.slots }
     requires may { MayPrepare arrangement.now cell.now }
@@ -75,13 +77,18 @@ pub fn prepare(
     ensures pieces { IfOk result (λ prepared. HasPieces cell.now.number arrangement.now.stack.sizes.depth arrangement.now.pieces
         prepared.exchange.lost.items prepared.exchange.gained.items) }
 {
-    let becomes = becomes_of(alloc, cell, arrangement)?;
+    let becomes = becomes_of(alloc, cell, arrangement, spare)?;
     let exchange = exchange_of(alloc, cell.slot(), arrangement)?;
     Ok(Prepared { becomes, exchange })
 }
 
 // What becomes of the cell.
-fn becomes_of(alloc: Global, cell: &Cell, arrangement: &Arrangement) -> Result<Becomes, AllocError>
+fn becomes_of(
+    alloc: Global,
+    cell: &Cell,
+    arrangement: &Arrangement,
+    spare: &mut Spare,
+) -> Result<Becomes, AllocError>
     requires slot { cell.now.number < arrangement.now.stack.sizes.slots }
     requires may { MayPrepare arrangement.now cell.now }
     requires elsewhere { IsShownElsewhere arrangement.now cell.now }
@@ -90,7 +97,7 @@ fn becomes_of(alloc: Global, cell: &Cell, arrangement: &Arrangement) -> Result<B
     let slot = cell.slot();
     match arrangement.bounds(slot) {
         None => Ok(without_bounds(cell)),
-        Some(bounds) => with_bounds(alloc, cell, arrangement, &bounds),
+        Some(bounds) => with_bounds(alloc, cell, arrangement, &bounds, spare),
     }
 }
 
@@ -110,6 +117,7 @@ fn with_bounds(
     cell: &Cell,
     arrangement: &Arrangement,
     bounds: &Rect,
+    spare: &mut Spare,
 ) -> Result<Becomes, AllocError>
     requires slot { cell.now.number < arrangement.now.stack.sizes.slots }
     requires bounds { bounds_at arrangement.now.stack.bounds cell.now.number ≡ Some bounds.now }
@@ -131,7 +139,7 @@ fn with_bounds(
             bounds,
             new_visible(cell, arrangement),
         ),
-        Some(_) => changed(alloc, cell, arrangement, bounds),
+        Some(_) => changed(alloc, cell, arrangement, bounds, spare),
     }
 }
 
@@ -200,6 +208,7 @@ fn changed(
     cell: &Cell,
     arrangement: &Arrangement,
     bounds: &Rect,
+    spare: &mut Spare,
 ) -> Result<Becomes, AllocError>
     requires slot { cell.now.number < arrangement.now.stack.sizes.slots }
     requires live { cell.now.state ≡ view.Live }
@@ -219,7 +228,7 @@ fn changed(
     let Some(visible) = changed_visible(alloc, cell, layer, arrangement, bounds)? else {
         return Ok(Becomes::Stays);
     };
-    let change = lw_reveal::prepare(alloc, layer, bounds, visible)?;
+    let change = lw_reveal::prepare(alloc, layer, bounds, visible, spare)?;
     Ok(Becomes::Changes(Box::new(alloc, change)?))
 }
 
@@ -237,9 +246,9 @@ pub fn give_up(prepared: &mut Prepared, pool: &mut Pool)
     prepared.exchange.give_up(pool);
 }
 
-/// Takes what the cell gains out of the pool, and makes of the cell what was prepared from it, which gave its pieces up. It takes
-/// no memory and can't be refused.
-pub fn commit(cell: &mut Cell, prepared: Prepared, pool: &mut Pool)
+/// Takes what the cell gains out of the pool, and makes of the cell what was prepared from it, which gave its pieces up. The memory
+/// of bitmaps that a changed layer no longer has goes to `spare`. It takes no memory and can't be refused.
+pub fn commit(cell: &mut Cell, prepared: Prepared, pool: &mut Pool, spare: &mut Spare)
     requires prepared { (to : CellView) × IsPrepared cell.old to prepared.becomes }
     requires given { prepared.exchange.lost.items ≡ [] }
     requires pool { (r : Rectangle) → copies r prepared.exchange.gained.items ≤ copies_in r pool.old.strips }
@@ -248,11 +257,12 @@ pub fn commit(cell: &mut Cell, prepared: Prepared, pool: &mut Pool)
         copies_in r pool.old.strips ≡ copies_in r pool.new.strips + copies r prepared.exchange.gained.items }
 {
     prepared.exchange.claim(pool);
-    turn_into(cell, prepared.becomes);
+    turn_into(cell, prepared.becomes, spare);
 }
 
-/// Makes of the cell what is ready to be made of it. It takes no memory and can't be refused.
-pub fn turn_into(cell: &mut Cell, becomes: Becomes)
+/// Makes of the cell what is ready to be made of it. The memory of bitmaps that a changed layer no longer has goes to `spare`. It
+/// takes no memory and can't be refused.
+pub fn turn_into(cell: &mut Cell, becomes: Becomes, spare: &mut Spare)
     requires { (to : CellView) × IsPrepared cell.old to becomes }
     ensures { (to : CellView) → IsPrepared cell.old to becomes → cell.new ≡ to }
 {
@@ -260,7 +270,7 @@ pub fn turn_into(cell: &mut Cell, becomes: Becomes)
         Becomes::Stays => {}
         Becomes::Closes => replace(cell, DraftState::Closed),
         Becomes::Opens(draft) => replace(cell, DraftState::Live(Box::into_inner(draft))),
-        Becomes::Changes(change) => apply(cell, Box::into_inner(change)),
+        Becomes::Changes(change) => apply(cell, Box::into_inner(change), spare),
     }
 }
 

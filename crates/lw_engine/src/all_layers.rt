@@ -31,14 +31,16 @@ use lw_arrange::{
 use lw_backfill::{Backfill, Shelf};
 use lw_calls::{Assets, Call, Reply};
 use lw_layer::Look;
+use lw_planes::Spare;
 use lw_stack::Info;
 use lw_strips::{Piece, Pool};
 use std::alloc::{AllocError, Global};
 
 /// Makes a call on all slots, which are given in rising number, with LayerInfo and the shelf of hooks, as the machine's step says
 /// of every desk to which this was handed in. An arrangement is planned, room is reserved in each window's port, everything is
-/// prepared, and only then anything is changed. It fails only when out of memory, and all is then as it was, whatever room ports
-/// have. Setting a hook takes no memory, and drops the layer's former one.
+/// prepared, and only then anything is changed. Bitmaps take memory from `spare` as far as that has some, and those that layers no
+/// longer have leave theirs to it. It fails only when out of memory, and all is then as it was, whatever room ports have. Setting a
+/// hook takes no memory, and drops the layer's former one.
 pub fn on_all<B: Backfill>(
     alloc: Global,
     info: &mut Info,
@@ -47,6 +49,7 @@ pub fn on_all<B: Backfill>(
     assets: &Assets,
     task: u32,
     call: &Call,
+    spare: &mut Spare,
 ) -> Result<Reply, AllocError>
     requires all { class_of call.now ≡ OnAll }
     requires fits { IsTrue (call_fits info.old.sizes call.now) }
@@ -63,7 +66,7 @@ pub fn on_all<B: Backfill>(
 {
     match call {
         Call::SetHook { slot, hook } => Ok(set_hook(shelf, slots, *slot, *hook)),
-        _ => plan_and_arrange(alloc, info, shelf, slots, assets, task, call),
+        _ => plan_and_arrange(alloc, info, shelf, slots, assets, task, call, spare),
     }
 }
 
@@ -91,6 +94,7 @@ fn plan_and_arrange<B: Backfill>(
     assets: &Assets,
     task: u32,
     call: &Call,
+    spare: &mut Spare,
 ) -> Result<Reply, AllocError>
     requires all { is_arrangement call.now ≡ true }
     requires fits { IsTrue (call_fits info.old.sizes call.now) }
@@ -112,7 +116,7 @@ fn plan_and_arrange<B: Backfill>(
             let _ = arrangement.sizes();
             let _ = info.sizes();
             reserve_all(alloc, info, slots)?;
-            arrange(alloc, info, shelf, slots, assets, &arrangement)
+            arrange(alloc, info, shelf, slots, assets, &arrangement, spare)
         }
     }
 }
@@ -126,6 +130,7 @@ fn arrange<B: Backfill>(
     slots: &mut [Slot<B>],
     assets: &Assets,
     arrangement: &Arrangement,
+    spare: &mut Spare,
 ) -> Result<Reply, AllocError>
     requires sizes { arrangement.now.stack.sizes ≡ info.old.sizes }
     requires cells { AreNumbered info.old.sizes.slots slots.old }
@@ -141,7 +146,7 @@ fn arrange<B: Backfill>(
 {
     // Reading the sizes tells the proof what holds of the plan.
     let _ = arrangement.sizes();
-    let mut ready = prepare_all(alloc, info, slots, shelf, arrangement)?;
+    let mut ready = prepare_all(alloc, info, slots, shelf, arrangement, spare)?;
     let mut next = prepare_info(alloc, info, arrangement)?;
     let pieces = arrangement.pieces();
     let mut pool = Pool::new(alloc);
@@ -149,7 +154,7 @@ fn arrange<B: Backfill>(
     let ready = ready.as_mut_slice();
     take_hook(shelf, ready, arrangement.call());
     give_up_all(ready, &mut next, &mut pool);
-    settle_all(alloc, slots, assets, ready, &mut pool);
+    settle_all(alloc, slots, assets, ready, &mut pool, spare);
     commit_last(info, next, pieces, &mut pool);
     Ok(Reply::Done)
 }
@@ -274,6 +279,7 @@ fn prepare_all<B: Backfill>(
     slots: &[Slot<B>],
     shelf: &Shelf<B>,
     arrangement: &Arrangement,
+    spare: &mut Spare,
 ) -> Result<Vec<Ready<B>>, AllocError>
     requires sizes { arrangement.now.stack.sizes ≡ info.now.sizes }
     requires cells { AreNumbered info.now.sizes.slots slots.now }
@@ -281,8 +287,8 @@ fn prepare_all<B: Backfill>(
     ensures { IfOk result (λ made. AreReady info.now arrangement.now shelf.now slots.now made.items) }
 {
     let mut made = Vec::with_capacity(alloc, info.order().len() + 1)?;
-    prepare_live(alloc, info, slots, shelf, arrangement, &mut made)?;
-    prepare_new(alloc, info, slots, shelf, arrangement, &mut made)?;
+    prepare_live(alloc, info, slots, shelf, arrangement, &mut made, spare)?;
+    prepare_new(alloc, info, slots, shelf, arrangement, &mut made, spare)?;
     Ok(made)
 }
 
@@ -294,6 +300,7 @@ fn prepare_live<B: Backfill>(
     shelf: &Shelf<B>,
     arrangement: &Arrangement,
     made: &mut Vec<Ready<B>>,
+    spare: &mut Spare,
 ) -> Result<(), AllocError>
     requires sizes { arrangement.now.stack.sizes ≡ info.now.sizes }
     requires cells { AreNumbered info.now.sizes.slots slots.now }
@@ -304,7 +311,7 @@ fn prepare_live<B: Backfill>(
     let order = info.order();
     for slot in order {
         if !is_left(slots, arrangement, *slot) {
-            made.push(prepare_one(alloc, slots, shelf, arrangement, *slot)?)?;
+            made.push(prepare_one(alloc, slots, shelf, arrangement, *slot, spare)?)?;
         }
     }
     Ok(())
@@ -318,6 +325,7 @@ fn prepare_new<B: Backfill>(
     shelf: &Shelf<B>,
     arrangement: &Arrangement,
     made: &mut Vec<Ready<B>>,
+    spare: &mut Spare,
 ) -> Result<(), AllocError>
     requires sizes { arrangement.now.stack.sizes ≡ info.now.sizes }
     requires cells { AreNumbered info.now.sizes.slots slots.now }
@@ -331,7 +339,7 @@ fn prepare_new<B: Backfill>(
     let order = arrangement.order();
     for slot in order {
         if info.bounds(*slot).is_none() {
-            made.push(prepare_one(alloc, slots, shelf, arrangement, *slot)?)?;
+            made.push(prepare_one(alloc, slots, shelf, arrangement, *slot, spare)?)?;
         }
     }
     Ok(())
@@ -353,13 +361,14 @@ fn prepare_one<B: Backfill>(
     shelf: &Shelf<B>,
     arrangement: &Arrangement,
     slot: u32,
+    spare: &mut Spare,
 ) -> Result<Ready<B>, AllocError>
     requires cells { AreNumbered arrangement.now.stack.sizes.slots slots.now }
     requires may { (s : ℕ) → s < length slots.now → MayBeReady arrangement.now (cell_at slots.now s) }
     requires low { slot < length slots.now }
     ensures { IfOk result (λ ready. (ready.slot ≡ slot) × IsReadyFor arrangement.now shelf.now (cell_at slots.now slot) ready) }
 {
-    slots[slot as usize].prepare(alloc, shelf, arrangement)
+    slots[slot as usize].prepare(alloc, shelf, arrangement, spare)
 }
 
 // Takes the hook that the call asks for from the shelf, for the slot of its new layer.
@@ -406,6 +415,7 @@ fn settle_all<B: Backfill>(
     assets: &Assets,
     ready: &mut [Ready<B>],
     pool: &mut Pool,
+    spare: &mut Spare,
 )
     requires settled { (after : CellView → CellView) × AreSettled assets.now.glyphs after slots.old ready.old }
     requires once { (s : ℕ) → occurrences s (slots_of ready.old) ≤ 1 }
@@ -416,7 +426,7 @@ fn settle_all<B: Backfill>(
         copies_in r pool.old.strips ≡ copies_in r pool.new.strips + sum_by (λ q. copies r q.claims) ready.old }
 {
     for place in 0..ready.len() {
-        settle_one(alloc, slots, assets, &mut ready[place], pool);
+        settle_one(alloc, slots, assets, &mut ready[place], pool, spare);
     }
 }
 
@@ -427,6 +437,7 @@ fn settle_one<B: Backfill>(
     assets: &Assets,
     ready: &mut Ready<B>,
     pool: &mut Pool,
+    spare: &mut Spare,
 )
     requires low { ready.old.slot < length slots.old }
     requires settled { (to : CellView) × IsSettled assets.now.glyphs (cell_at slots.old ready.old.slot) to ready.old }
@@ -436,5 +447,5 @@ fn settle_one<B: Backfill>(
     ensures numbers { (r : Rectangle) → copies_in r pool.old.strips ≡ copies_in r pool.new.strips + copies r ready.old.claims }
 {
     let place = ready.slot() as usize;
-    slots[place].settle(alloc, assets, ready, pool);
+    slots[place].settle(alloc, assets, ready, pool, spare);
 }

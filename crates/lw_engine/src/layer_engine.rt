@@ -16,6 +16,7 @@ use lw_backfill::{Backfill, Shelf};
 use lw_calls::{Assets, Call, Final, Replies, Reply, Sizes};
 use lw_engine_trait::Engine;
 use lw_layer_calls::{Regs, on_info, on_registers};
+use lw_planes::Spare;
 use lw_stack::Info;
 use std::alloc::{AllocError, Global};
 use std::marker::PhantomData;
@@ -58,7 +59,8 @@ impl<'a, B: Backfill> LayerEngine<'a, B> {
         let shelf = Shelf::new(alloc, hooks)?;
         let slots = unopened_slots(alloc, self.sizes.slots)?;
         let registers = empty_registers(alloc, self.sizes.tasks)?;
-        let info = LayerInfo { info, shelf };
+        let spare = Spare::new(alloc)?;
+        let info = LayerInfo { info, shelf, spare };
         Ok(Opened {
             info,
             slots,
@@ -140,6 +142,7 @@ impl<'a, B: Backfill + Send> Engine for LayerEngine<'a, B> {
             self.assets,
             task,
             call,
+            &mut info.spare,
         )
     }
 }

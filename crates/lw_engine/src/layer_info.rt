@@ -1,17 +1,20 @@
-// LayerInfo with the hooks that no call took.
+// LayerInfo with the hooks that no call took, and with spare memory.
 
 ghost use Rattle.std.specs.Prelude.{◌≡◌};
 
 use lw_backfill::{Backfill, Shelf};
+use lw_planes::Spare;
 use lw_stack::Info;
 use std::marker::Model;
 
-/// LayerInfo, and beside it the hooks that no call took (the manual's Layers Library chapter: the `Layer_Info` structure; the
-/// shelf of hooks is this project's own). Contracts see the list of layers and the shelf.
+/// LayerInfo, and beside it the hooks that no call took, and memory of former bitmaps for the next ones (the manual's Layers
+/// Library chapter: the `Layer_Info` structure; the shelf of hooks and the spare memory are this project's own). Contracts see the
+/// list of layers and the shelf.
 #[derive(Drop)]
 pub struct LayerInfo<B: Backfill> {
     pub(crate) info: Info,
     pub(crate) shelf: Shelf<B>,
+    pub(crate) spare: Spare,
 }
 
 impl<B: Backfill> Model for LayerInfo<B> {

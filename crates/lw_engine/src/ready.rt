@@ -30,6 +30,7 @@ use lw_calls::{Assets, Call};
 use lw_frames::paint_own_frame;
 use lw_hook_fill::fill;
 use lw_layer::{Cell, Layer, LiveDraft};
+use lw_planes::Spare;
 use lw_region::Region;
 use lw_reveal::Change;
 use lw_strips::Pool;
@@ -109,6 +110,7 @@ impl<B: Backfill> Slot<B> {
         alloc: Global,
         shelf: &Shelf<B>,
         arrangement: &Arrangement,
+        spare: &mut Spare,
     ) -> Result<Ready<B>, AllocError>
         requires slot { self.now.number < arrangement.now.stack.sizes.slots }
         requires may { MayBeReady arrangement.now self.now }
@@ -117,7 +119,7 @@ impl<B: Backfill> Slot<B> {
         let cell = &*self.cell;
         // Reading these tells the proof what holds of the cell, and that the region's list is canonical.
         let _ = cell.look();
-        let prepared = prepare(alloc, cell, arrangement)?;
+        let prepared = prepare(alloc, cell, arrangement, spare)?;
         let hooked = self.has_hook(shelf, arrangement.call());
         let gained = pixels_gained(alloc, cell, arrangement, hooked)?;
         let window = window_after(cell, arrangement, &gained);
@@ -168,6 +170,7 @@ impl<B: Backfill> Slot<B> {
         assets: &Assets,
         ready: &mut Ready<B>,
         pool: &mut Pool,
+        spare: &mut Spare,
     )
         requires settled { (to : CellView) × IsSettled assets.now.glyphs self.old to ready.old }
         requires pool { (r : Rectangle) → copies r ready.old.claims ≤ copies_in r pool.old.strips }
@@ -177,13 +180,13 @@ impl<B: Backfill> Slot<B> {
         ready.exchange.claim(pool);
         match mem::replace(&mut ready.prepared, Becomes::Stays) {
             Becomes::Stays => self.stay(alloc, assets, &ready.window),
-            Becomes::Closes => self.close(),
+            Becomes::Closes => self.close(spare),
             Becomes::Opens(draft) => {
                 let taken = ready.taken.take();
-                self.open(alloc, assets, draft, taken, &ready.gained)
+                self.open(alloc, assets, draft, taken, &ready.gained, spare)
             }
             Becomes::Changes(change) => {
-                self.change(alloc, assets, change, &ready.gained, &ready.window)
+                self.change(alloc, assets, change, &ready.gained, &ready.window, spare)
             }
         }
     }
@@ -200,11 +203,11 @@ impl<B: Backfill> Slot<B> {
     }
 
     // The layer is deleted, and its hook dropped.
-    fn close(&mut self)
+    fn close(&mut self, spare: &mut Spare)
         requires { self.old.state ≡ view.Live }
         ensures { self.new ≡ record { number = self.old.number; state = view.Closed; live = no_layer } }
     {
-        turn_into(&mut *self.cell, Becomes::Closes);
+        turn_into(&mut *self.cell, Becomes::Closes, spare);
         self.held = None;
     }
 
@@ -216,6 +219,7 @@ impl<B: Backfill> Slot<B> {
         draft: Box<LiveDraft>,
         taken: Option<B>,
         gained: &Region,
+        spare: &mut Spare,
     )
         requires idle { self.old.state ≡ view.Live → ⊥ }
         requires draft { IsLiveDraft draft.value }
@@ -226,7 +230,7 @@ impl<B: Backfill> Slot<B> {
         } }
     {
         let cell = &mut *self.cell;
-        turn_into(cell, Becomes::Opens(draft));
+        turn_into(cell, Becomes::Opens(draft), spare);
         self.held = taken;
         let Some(layer) = cell.layer_mut() else {
             unreachable!();
@@ -244,6 +248,7 @@ impl<B: Backfill> Slot<B> {
         change: Box<Change>,
         gained: &Region,
         window: &WindowAfter,
+        spare: &mut Spare,
     )
         requires live { self.old.state ≡ view.Live }
         requires room { HasRoom 5 self.old }
@@ -256,7 +261,7 @@ impl<B: Backfill> Slot<B> {
         let cell = &mut *self.cell;
         // Reading this tells the proof that the cell has no hook of its own.
         let _ = cell.look();
-        turn_into(cell, Becomes::Changes(change));
+        turn_into(cell, Becomes::Changes(change), spare);
         let Some(layer) = cell.layer_mut() else {
             unreachable!();
         };

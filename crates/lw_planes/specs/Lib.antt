@@ -8,3 +8,4 @@ pub mod Change
 pub mod Lending
 pub mod Minterm
 pub mod Laws
+pub mod Spares

@@ -41,8 +41,7 @@ impl Planes {
         requires { AreSizes width height depth }
         ensures { IfOk result (λ planes. planes ≡ bitmap width height depth (λ _ _. 0)) }
     {
-        let length = depth as usize * height as usize * row_length(width);
-        let bytes = vec![in alloc; 0; length]?;
+        let bytes = vec![in alloc; 0; bytes_of(width, height, depth)]?;
         Ok(Planes {
             width,
             height,
@@ -67,6 +66,11 @@ impl Planes {
             depth,
             bytes,
         }
+    }
+
+    // The bytes of all planes without the bitmap.
+    pub(crate) fn into_bytes(self) -> Vec<u8> {
+        self.bytes
     }
 
     /// The bytes of all planes, as `from_bytes` takes them.
@@ -192,6 +196,14 @@ impl Planes {
         let end = start + rows as usize * length;
         self.bytes.slice_mut(start..end)
     }
+}
+
+// How many bytes all planes of a bitmap have.
+pub(crate) fn bytes_of(width: u32, height: u32, depth: u32) -> usize
+    requires { AreSizes width height depth }
+    ensures { result ≡ depth * height * row_bytes width }
+{
+    depth as usize * height as usize * row_length(width)
 }
 
 // How many bytes a row of one plane has.

@@ -1,22 +1,38 @@
 -- For private contracts.
 -- Pens that are carried into new strips and buffers.
-use Rattle.std.specs.Prelude.{◌≡◌, ℕ, ◌+◌, ◌<◌, ◌≤◌, false, Bool, List, take, length, Some, None, pos}
+use Rattle.std.specs.Prelude.{◌≡◌, ℕ, ◌+◌, ◌<◌, ◌≤◌, true, false, Bool, List, take, length, Some, None, ℤ, pos, ◌+ℤ◌, ◌≤ℤ◌}
 use Rattle.std.specs.List.{All, slice_index_or}
 use Rattle.lw_region.specs.Rectangle.{Rectangle, width, height}
-use Rattle.lw_planes.specs.Bitmap.{Bitmap}
+use Rattle.lw_planes.specs.Bitmap.{Bitmap, pen_at}
 use Rattle.lw_planes.specs.Sizes.{AreSizes}
-use Rattle.lw_layer.specs.View.{LiveView}
+use Rattle.lw_layer.specs.View.{LiveView, keeps, kept_pen}
 use Rattle.lw_layer.specs.Drafts.{no_bitmap}
 use Rattle.lw_reveal.specs.declared.carrying.Place.{Place}
 use Rattle.lw_strips.specs.Strips.{StripView, held_by, rects_of}
 use Rattle.lw_reveal.specs.Changes.{carried, held_in}
+use Rattle.lw_planes.specs.Spares.{HasSizes}
 
--- The place tells how far the layer's bits are scrolled.
+-- the layer keeps all pixels of its first w columns and h rows
+abbrev pub KeepsAll : LiveView → ℕ → ℕ → Type 0
+KeepsAll c w h = (u v : ℕ) → u < w → v < h → keeps c u v ≡ true
+
+-- The place tells how far the layer's bits are scrolled, and of how many columns and rows the layer keeps all pixels.
 pub record IsPlace (c : LiveView) (p : Place) : Type 0 where
   pub scroll_x : p.scroll_x ≡ pos c.layer.scroll_x
   pub scroll_y : p.scroll_y ≡ pos c.layer.scroll_y
   pub wide : c.layer.scroll_x ≤ 2048
   pub high : c.layer.scroll_y ≤ 2048
+  pub kept : KeepsAll c p.kept_width p.kept_height
+
+-- so many places from this one on lie within the first ones
+pub record LiesWithin (first : ℤ) (count all : ℕ) : Type 0 where
+  pub from : pos 0 ≤ℤ first
+  pub upto : (first +ℤ pos count) ≤ℤ pos all
+
+-- A bitmap of w columns and h rows for the layer's pixels from (x, y) on: where the layer keeps none it has pen 0.
+pub record IsForPens (c : LiveView) (x y : ℤ) (w h : ℕ) (b : Bitmap) : Type 0 where
+  pub sizes : HasSizes w h c.layer.bits.depth b
+  pub rest : (i j : ℕ) → i < w → j < h → kept_pen c (x +ℤ pos i) (y +ℤ pos j) ≡ None → pen_at b i j ≡ 0
 
 -- each rectangle has sizes for planes
 abbrev pub HaveSizes : ℕ → List Rectangle → Type 0

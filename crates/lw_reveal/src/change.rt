@@ -9,7 +9,7 @@ ghost use Rattle.lw_reveal.specs.Changed.{carried_to, MayHave};
 ghost use Rattle.lw_reveal.specs.Changes.{IsChange};
 ghost use Rattle.lw_reveal.specs.Handing.{own_whole};
 
-use crate::carrying::{Place, all_buffers};
+use crate::carrying::{all_buffers, place_of};
 use crate::damage::damage_after;
 use crate::handing::hand_all;
 use crate::pairing::find_pairs;
@@ -17,7 +17,7 @@ use lw_calls::Kind;
 use lw_cliprects::Parts;
 use lw_damage::Damage;
 use lw_layer::{Cell, Draft, DraftState, Layer, LiveDraft};
-use lw_planes::Planes;
+use lw_planes::{Planes, Spare};
 use lw_region::{Rect, Region};
 use lw_strips::Strip;
 use lw_super::write_back;
@@ -43,12 +43,13 @@ pub struct Change {
 }
 
 /// Makes ready what the live layer becomes once it has these bounds and these visible pixels, both in screen coordinates. The
-/// layer stays as it is. It fails only when out of memory.
+/// layer stays as it is. Its new bitmaps take memory from `spare` as far as that has some. It fails only when out of memory.
 pub fn prepare(
     alloc: Global,
     layer: &Layer,
     bounds: &Rect,
     visible: Region,
+    spare: &mut Spare,
 ) -> Result<Change, AllocError>
     requires may { MayHave layer.now bounds.now visible }
     ensures change { IfOk result (λ k. IsChange layer.now k) }
@@ -63,14 +64,10 @@ pub fn prepare(
     let pairing = find_pairs(alloc, layer, &look, bounds, &parts)?;
     let _ = parts.hidden();
     let shown = parts.visible().len();
-    let place = Place {
-        bounds: *bounds,
-        scroll_x: look.scroll_x,
-        scroll_y: look.scroll_y,
-    };
-    let (strips, covered) = all_buffers(alloc, layer, &place, &pairing, shown)?;
+    let place = place_of(&look, bounds);
+    let (strips, covered) = all_buffers(alloc, layer, &place, &pairing, shown, spare)?;
     Ok(Change {
-        bounds: place.bounds,
+        bounds: *bounds,
         parts,
         damage,
         strips,
@@ -79,9 +76,9 @@ pub fn prepare(
     })
 }
 
-/// Applies a change to the live layer for which it was made: the layer is then revealed in its new bounds. It takes no memory and
-/// can't be refused.
-pub fn apply(cell: &mut Cell, change: Change)
+/// Applies a change to the live layer for which it was made: the layer is then revealed in its new bounds. The memory of the
+/// bitmaps that it no longer has goes to `spare`. It takes no memory and can't be refused.
+pub fn apply(cell: &mut Cell, change: Change, spare: &mut Spare)
     requires live { cell.old.state ≡ view.Live }
     requires change { IsChange cell.old.live change }
     ensures { cell.new ≡ with_live (carried_to change.bounds change.parts.visible) cell.old }
@@ -89,12 +86,12 @@ pub fn apply(cell: &mut Cell, change: Change)
     let slot = cell.slot();
     let state = DraftState::Closed;
     let former = cell.take_up(Draft { slot, state });
-    let state = changed_state(former.state, change);
+    let state = changed_state(former.state, change, spare);
     cell.take_up(Draft { slot, state });
 }
 
 // What a slot with a live layer holds once the change is applied.
-fn changed_state(former: DraftState, change: Change) -> DraftState
+fn changed_state(former: DraftState, change: Change, spare: &mut Spare) -> DraftState
     requires sound { IsState former }
     requires live { state_of former ≡ view.Live }
     requires change { IsChange (live_of former) change }
@@ -103,13 +100,13 @@ fn changed_state(former: DraftState, change: Change) -> DraftState
     ensures layer { live_of result ≡ carried_to change.bounds change.parts.visible (live_of former) }
 {
     match former {
-        DraftState::Live(live) => DraftState::Live(changed(live, change)),
+        DraftState::Live(live) => DraftState::Live(changed(live, change, spare)),
         _ => unreachable!(),
     }
 }
 
 // The live layer once the change is applied.
-fn changed(live: LiveDraft, change: Change) -> LiveDraft
+fn changed(live: LiveDraft, change: Change, spare: &mut Spare) -> LiveDraft
     requires sound { IsLiveDraft live }
     requires change { IsChange (live_view live) change }
     ensures sound { IsLiveDraft result }
@@ -131,6 +128,7 @@ fn changed(live: LiveDraft, change: Change) -> LiveDraft
         &change.handed,
         &mut change.strips,
         &mut change.covered,
+        spare,
     );
     live.bounds = change.bounds;
     live.parts = change.parts;

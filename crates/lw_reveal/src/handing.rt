@@ -6,10 +6,10 @@ ghost use Rattle.lw_strips.specs.Strips.{rects_of, planes_of};
 ghost use Rattle.lw_reveal.specs.Changes.{held_in};
 ghost use Rattle.lw_reveal.specs.Handing.{placed, handed_over, HasPlace, HavePlaces};
 
-use lw_planes::Planes;
+use lw_planes::{Planes, Spare};
 use lw_strips::Strip;
 
-// Hands the bitmaps of former strips and former buffers over to their places, if they have one, and frees the others. The places
+// Hands the bitmaps of former strips and former buffers over to their places, if they have one, and the others to the spare ones. The places
 // go through the new strips and the new buffers, one list after the other.
 pub(crate) fn hand_all(
     shown: &mut Vec<Strip>,
@@ -17,6 +17,7 @@ pub(crate) fn hand_all(
     handed: &[Option<usize>],
     strips: &mut [Strip],
     covered: &mut [Planes],
+    spare: &mut Spare,
 )
     requires many { length handed.now ≡ length shown.old.items + length hidden.old.items }
     requires solid { All (λ s. s.solid ≡ true) shown.old.items }
@@ -28,8 +29,8 @@ pub(crate) fn hand_all(
     ensures long { length covered.new ≡ length covered.old }
 {
     let rest = &handed[shown.len()..];
-    hand_buffers(hidden, rest, strips, covered);
-    hand_strips(shown, handed, strips, covered);
+    hand_buffers(hidden, rest, strips, covered, spare);
+    hand_strips(shown, handed, strips, covered, spare);
 }
 
 // The same for former strips.
@@ -38,6 +39,7 @@ fn hand_strips(
     handed: &[Option<usize>],
     strips: &mut [Strip],
     covered: &mut [Planes],
+    spare: &mut Spare,
 )
     requires long { length former.old.items ≤ length handed.now }
     requires solid { All (λ s. s.solid ≡ true) former.old.items }
@@ -49,7 +51,7 @@ fn hand_strips(
 {
     while let Some(strip) = former.pop() {
         match strip.into_planes() {
-            Some(planes) => hand(planes, handed[former.len()], strips, covered),
+            Some(planes) => hand(planes, handed[former.len()], strips, covered, spare),
             None => unreachable!(),
         }
     }
@@ -61,6 +63,7 @@ fn hand_buffers(
     handed: &[Option<usize>],
     strips: &mut [Strip],
     covered: &mut [Planes],
+    spare: &mut Spare,
 )
     requires long { length former.old.items ≤ length handed.now }
     requires places { HavePlaces handed.now former.old.items (rects_of strips.old) (length covered.old) }
@@ -69,18 +72,25 @@ fn hand_buffers(
     ensures long { length covered.new ≡ length covered.old }
 {
     while let Some(planes) = former.pop() {
-        hand(planes, handed[former.len()], strips, covered);
+        hand(planes, handed[former.len()], strips, covered, spare);
     }
 }
 
-// Hands one bitmap over, or frees it.
-fn hand(planes: Planes, to: Option<usize>, strips: &mut [Strip], covered: &mut [Planes])
+// Hands one bitmap over, or gives it to the spare ones.
+fn hand(
+    planes: Planes,
+    to: Option<usize>,
+    strips: &mut [Strip],
+    covered: &mut [Planes],
+    spare: &mut Spare,
+)
     requires { HasPlace to planes (rects_of strips.old) (length covered.old) }
     ensures held { held_in strips.new covered.new ≡ placed to planes (held_in strips.old covered.old) }
     ensures rects { rects_of strips.new ≡ rects_of strips.old }
     ensures long { length covered.new ≡ length covered.old }
 {
     let Some(place) = to else {
+        spare.keep(planes);
         return;
     };
     let shown = strips.len();

@@ -23,5 +23,5 @@ returns-clause-change c =
     let shown : parts.visible ≡ c.args.visible = ap (λ (q : Division). q.visible) c.in_ok-parts.ensures in
     let M : List Rectangle → Type 0 = λ q. MayHave live bounds q in
     let D : List Rectangle → Type 0 = λ q. IsDamageOf (carried_to bounds q live) c.in_ok-damage.damage in
-    prepared live _ c.in_ok-pairing.pairing _ c.in_ok-pairing.ensures refl c.in_ok-strips.ensures (ap length c.visible-shown.ensures.value)
+    prepared live _ c.in_ok-pairing.pairing _ c.in_ok-pairing.ensures refl (rw c.place_of-place.ensures.bounds at c.in_ok-strips.ensures) (ap length c.visible-shown.ensures.value)
     (ap (λ (q : Division). q.bounds) c.in_ok-parts.ensures) (subst M (sym shown) c.requires.may) (subst D (sym shown) c.in_ok-damage.ensures)
